@@ -1,0 +1,133 @@
+-- What a script says, statement by statement. Assumes nothing.
+use mathlib.Core.Path.{_≡_}
+use mathlib.Core.Bool.{Bool, true, false, cond, _&&_, _||_, not}
+use mathlib.Core.List.{List, [], _∷_, _++_}
+use Prim.Native.Nat.{ℕ, suc, _+_, min}
+use lib.Dec.{eqb, ltb}
+use lib.ListN.{length}
+use Rattle.script.specs.Statements.{statement, most}
+use Rattle.script.specs.Words.{words, lines}
+use Rattle.script.specs.declared.sheet.BadLine.{BadLine}
+use Rattle.script.specs.declared.sheet.Event.{Event}
+use Rattle.script.specs.declared.sheet.LinkEvent.{LinkEvent}
+use Rattle.script.specs.declared.sheet.LinkEvent.the-variants.{Opens, Breaks}
+use Rattle.script.specs.declared.sheet.Peer.{Peer}
+use Rattle.script.specs.declared.sheet.ReadFault.{ReadFault}
+use Rattle.script.specs.declared.sheet.ReadFault.the-variants.{Line, OutOfMemory}
+use Rattle.script.specs.declared.sheet.Refusal.{Refusal}
+use Rattle.script.specs.declared.sheet.Refusal.the-variants.{Bad, NoMemory}
+use Rattle.script.specs.declared.sheet.Script.{Script}
+use Rattle.script.specs.declared.statement.Expected.{Expected}
+use Rattle.script.specs.declared.statement.Expected.the-variants as Expected
+use Rattle.script.specs.declared.statement.Statement.{Statement}
+use Rattle.script.specs.declared.statement.Statement.the-variants as Statement
+use Rattle.std.specs.Holes.{inserted}
+use Rattle.std.specs.Of.Vec.{vec-items}
+use Rattle.std.specs.declared.option.Option.{Option}
+use Rattle.std.specs.declared.option.Option.the-variants.{Some, None}
+use Rattle.std.specs.declared.result.Result.{Result}
+use Rattle.std.specs.declared.result.Result.the-variants.{Ok, Err}
+
+-- peers by their numbers, events by their ticks and lines, and how many rounds, once that is said
+pub record Sheet : Type 0 where
+  pub peers : List Peer
+  pub events : List Event
+  pub rounds : Option ℕ
+
+abbrev pub blankSheet : Sheet
+blankSheet = record { peers = []; events = []; rounds = None }
+
+-- what a script's fields stand for
+abbrev pub sheet : Script → Sheet
+sheet s = record { peers = vec-items (s .peers); events = vec-items (s .events); rounds = s .rounds }
+
+-- is a peer of that number there
+unfoldable pub known : ℕ → List Peer → Bool
+known n [] = false
+known n (p ∷ ps) = eqb (p .id) n || known n ps
+
+-- before how many items one of that key stands that is read after them: the first of a greater key
+unfoldable pub place : {X : Type 0} → (X → ℕ) → ℕ → List X → ℕ
+place key n [] = 0
+place key n (x ∷ xs) = cond (ltb n (key x)) 0 (suc (place key n xs))
+
+-- peers stand by their numbers, events by their ticks
+abbrev pub numberOf : Peer → ℕ
+numberOf p = p .id
+
+abbrev pub tickOf : Event → ℕ
+tickOf e = e .at
+
+abbrev pub withPeer : Peer → Sheet → Result Sheet Expected
+withPeer p s = cond (known (p .id) (s .peers)) (Err Expected.NewPeer) (Ok (record { peers = inserted (s .peers) (place numberOf (p .id) (s .peers)) p; events = s .events; rounds = s .rounds }))
+
+abbrev pub withEvent : Event → Sheet → Result Sheet Expected
+withEvent e s =
+    cond (known (e .a) (s .peers) && known (e .b) (s .peers))
+    (cond (eqb (e .a) (e .b)) (Err Expected.OtherPeer) (Ok (record { peers = s .peers; events = inserted (s .events) (place tickOf (e .at) (s .events)) e; rounds = s .rounds })))
+    (Err Expected.KnownPeer)
+
+-- one statement more, on a line; none may follow `rounds`
+abbrev pub withStatement : ℕ → Statement → Sheet → Result Sheet Expected
+withStatement line (Statement.Peer n) s = withPeer (record { id = n; honest = true }) s
+withStatement line (Statement.False n) s = withPeer (record { id = n; honest = false }) s
+withStatement line (Statement.Link a b t d) s = withEvent (record { at = t; a = a; b = b; what = Opens d; line = line }) s
+withStatement line (Statement.Break a b t) s = withEvent (record { at = t; a = a; b = b; what = Breaks; line = line }) s
+withStatement line (Statement.Rounds n) s = Ok (record { peers = s .peers; events = s .events; rounds = Some n })
+
+abbrev pub more : ℕ → Sheet → Statement → Result Sheet Expected
+more line s st = elim (s .rounds) [ None ↦ withStatement line st s | Some n ↦ Err Expected.Nothing ]
+
+-- an answer is the sheet's, or there was no memory for it
+abbrev pub Answers : Result Sheet Expected → Result Script Refusal → Type 0
+Answers said (Ok s) = said ≡ Ok (sheet s)
+Answers said (Err (Bad e)) = said ≡ Err e
+Answers said (Err NoMemory) = Unit {0}
+
+-- are two events of one pair of peers
+abbrev pub samePair : Event → Event → Bool
+samePair e f = (eqb (e .a) (f .a) && eqb (e .b) (f .b)) || (eqb (e .a) (f .b) && eqb (e .b) (f .a))
+
+abbrev pub opening : LinkEvent → Bool
+opening (Opens d) = true
+opening Breaks = false
+
+-- does the link of an event stand after others, the earliest first, if it stood or not before them
+unfoldable pub stands : Event → Bool → List Event → Bool
+stands e before [] = before
+stands e before (f ∷ fs) = stands e (cond (samePair f e) (opening (f .what)) before) fs
+
+-- the line of the first event that breaks a link which does not stand, after those that came before
+unfoldable pub badBreak : List Event → List Event → Option ℕ
+badBreak past [] = None
+badBreak past (e ∷ es) = cond (opening (e .what) || stands e false past) (badBreak (past ++ (e ∷ [])) es) (Some (e .line))
+
+-- the whole sheet after its last line: it says how many rounds, and breaks only links that stand
+abbrev pub finished : ℕ → Sheet → Result Sheet BadLine
+finished line s = elim (s .rounds) [
+    None ↦ Err (record { line = line; expected = Expected.Rounds })
+  | Some n ↦ elim (badBreak [] (s .events)) [ None ↦ Ok s | Some bad ↦ Err (record { line = bad; expected = Expected.StandingLink }) ] ]
+
+-- a line: nothing, or a statement
+abbrev pub withWords : ℕ → Sheet → List (List ℕ) → Result Sheet Expected
+withWords line s [] = Ok s
+withWords line s (w ∷ ws) = elim (statement (w ∷ ws)) [ Ok st ↦ more line s st | Err e ↦ Err e ]
+
+-- lines are counted from 1, as far as 64 bits go
+abbrev pub nextLine : ℕ → ℕ
+nextLine n = min (n + 1) most
+
+-- the lines that follow line n
+unfoldable pub withLines : ℕ → Sheet → List (List ℕ) → Result Sheet BadLine
+withLines n s [] = finished n s
+withLines n s (l ∷ ls) = elim (withWords (nextLine n) s (words l)) [ Ok t ↦ withLines (nextLine n) t ls | Err e ↦ Err (record { line = nextLine n; expected = e }) ]
+
+-- a whole text
+abbrev pub script : List ℕ → Result Sheet BadLine
+script text = withLines 0 blankSheet (lines text)
+
+-- an answer is the text's, or there was no memory for it
+abbrev pub Reads : Result Sheet BadLine → Result Script ReadFault → Type 0
+Reads said (Ok s) = said ≡ Ok (sheet s)
+Reads said (Err (Line b)) = said ≡ Err b
+Reads said (Err OutOfMemory) = Unit {0}

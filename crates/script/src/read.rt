@@ -1,0 +1,88 @@
+// A whole script, read line by line.
+ghost use Prim.Native.Nat.{_+_};
+ghost use mathlib.Core.Path.{_≡_};
+ghost use Rattle.script.specs.Sheets.{Answers, Reads, sheet, blankSheet, withPeer, withEvent, more, finished};
+use crate::links::first_bad_break;
+use crate::places::EventKeyed;
+use crate::places::PeerKeyed;
+use crate::places::is_known;
+use crate::places::place_of;
+use crate::sheet::BadLine;
+use crate::sheet::Event;
+use crate::sheet::LinkEvent;
+use crate::sheet::Peer;
+use crate::sheet::ReadFault;
+use crate::sheet::Refusal;
+use crate::sheet::Script;
+use crate::statement::Expected;
+use crate::statement::Statement;
+use std::alloc::Global;
+
+impl Script {
+    // A script that says nothing yet.
+    pub fn new(heap: Global) -> Script
+        ensures { λ r. ⌜ sheet r ≡ blankSheet ⌝ }
+    {
+        Script { peers: Vec::new(heap), events: Vec::new(heap), rounds: None }
+    }
+
+    // One peer more, at its place by its number.
+    fn with_peer(mut self, peer: Peer) -> Result<Script, Refusal>
+        ensures { λ r. ⌜ Answers (withPeer peer (sheet self)) r ⌝ }
+    {
+        if is_known(self.peers.as_slice(), peer.id) {
+            return Err(Refusal::Bad(Expected::NewPeer));
+        }
+        let place = place_of(self.peers.as_slice(), peer.id);
+        match self.peers.insert(place, peer) {
+            Ok(_) => Ok(self),
+            Err(_) => Err(Refusal::NoMemory),
+        }
+    }
+
+    // One event more, at its place by its tick, after those of the lines above.
+    fn with_event(mut self, event: Event) -> Result<Script, Refusal>
+        ensures { λ r. ⌜ Answers (withEvent event (sheet self)) r ⌝ }
+    {
+        if !is_known(self.peers.as_slice(), event.a) || !is_known(self.peers.as_slice(), event.b) {
+            return Err(Refusal::Bad(Expected::KnownPeer));
+        }
+        if event.a == event.b {
+            return Err(Refusal::Bad(Expected::OtherPeer));
+        }
+        let place = place_of(self.events.as_slice(), event.at);
+        match self.events.insert(place, event) {
+            Ok(_) => Ok(self),
+            Err(_) => Err(Refusal::NoMemory),
+        }
+    }
+
+    // One statement more, from a line; none may follow `rounds`.
+    fn with(self, line: u64, statement: Statement) -> Result<Script, Refusal>
+        ensures { λ r. ⌜ Answers (more line (sheet self) statement) r ⌝ }
+    {
+        if self.rounds.is_some() {
+            return Err(Refusal::Bad(Expected::Nothing));
+        }
+        match statement {
+            Statement::Peer(id) => self.with_peer(Peer { id, honest: true }),
+            Statement::False(id) => self.with_peer(Peer { id, honest: false }),
+            Statement::Link { a, b, at, delay } => self.with_event(Event { at, a, b, what: LinkEvent::Opens(delay), line }),
+            Statement::Break { a, b, at } => self.with_event(Event { at, a, b, what: LinkEvent::Breaks, line }),
+            Statement::Rounds(count) => Ok(Script { rounds: Some(count), ..self }),
+        }
+    }
+
+    // The whole script after its last line: it says how many rounds, and breaks only links that stand.
+    fn finished(self, last: u64) -> Result<Script, ReadFault>
+        ensures { λ r. ⌜ Reads (finished last (sheet self)) r ⌝ }
+    {
+        if self.rounds.is_none() {
+            return Err(ReadFault::Line(BadLine { line: last, expected: Expected::Rounds }));
+        }
+        match first_bad_break(self.events.as_slice()) {
+            None => Ok(self),
+            Some(line) => Err(ReadFault::Line(BadLine { line, expected: Expected::StandingLink })),
+        }
+    }
+}
