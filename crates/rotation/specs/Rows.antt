@@ -1,8 +1,9 @@
 -- The row that a rotation stands for, and what its changes mean. Assumes nothing.
 use mathlib.Core.List.{List, map, _∷_, _++_}
 use mathlib.Core.Path.{_≡_}
-use mathlib.Core.Bool.{Bool, true, false}
+use mathlib.Core.Bool.{Bool, true, false, _||_}
 use Prim.Native.Nat.{ℕ, _≤_}
+use lib.Dec.{ltb}
 use lib.ListN.{length, take}
 use Rattle.rotation.specs.declared.row.Rotation.{Rotation}
 use Rattle.rotation.specs.declared.change.Change.{Change}
@@ -20,6 +21,10 @@ meant (Leave x) = Turns.Leaves x
 
 abbrev pub meantAll : List Change → List Turns.Change
 meantAll cs = map meant cs
+
+-- can one join: it is there, or there are fewer than 64
+abbrev pub room : ℕ → List ℕ → Bool
+room q row = isIn q row || ltb (length row) 64
 
 -- a rotation knows nobody who is shut out
 abbrev pub nobody : ℕ → Bool

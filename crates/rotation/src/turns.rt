@@ -1,11 +1,7 @@
 // What a rotation does, each step by value.
-ghost use Prim.Native.Nat.{_<_, _≤_};
-ghost use mathlib.Core.Bool.{false, _||_};
 ghost use mathlib.Core.List.{List, [], _∷_};
 ghost use mathlib.Core.Path.{_≡_};
-ghost use lib.Dec.{ltb};
-ghost use lib.ListN.{length};
-ghost use Rattle.rotation.specs.Rows.{row, meant, meantAll, nobody, Fair};
+ghost use Rattle.rotation.specs.Rows.{row, room, meant, meantAll, nobody, Fair};
 ghost use Rattle.std.specs.Results.{Cases, isOk};
 ghost use Rattle.std.specs.Vec.{listOf};
 ghost use Rattle.swarm.specs.Code.{taken};
@@ -39,9 +35,16 @@ impl Rotation {
         false
     }
 
+    // Can `id` join? It is there, or there are fewer than 64.
+    pub fn takes(self, id: u64) -> bool
+        ensures { λ r. ⌜ r ≡ room id (row self) ⌝ }
+    {
+        self.has(id) || self.count < 64
+    }
+
     // With `id` at the end, or as it is where `id` is there; a 65th is refused.
     pub fn join(self, id: u64) -> Result<Rotation, Fault>
-        ensures taken { λ r. ⌜ isOk r ≡ (isIn id (row self) || ltb (length (row self)) 64) ⌝ }
+        ensures taken { λ r. ⌜ isOk r ≡ room id (row self) ⌝ }
         ensures after { λ r. ⌜ Cases r (λ s. row s ≡ changed (Joins id ∷ []) (row self)) (λ e. e ≡ Fault.TooMany) ⌝ }
     {
         if self.has(id) {
@@ -93,7 +96,7 @@ impl Rotation {
     }
 
     // One change; a 65th that would join is left out.
-    pub fn change(self, change: Change) -> Rotation
+    fn change(self, change: Change) -> Rotation
         ensures { λ r. ⌜ row r ≡ changed (taken nobody (row self) (meant change ∷ [])) (row self) ⌝ }
     {
         match change {
@@ -105,16 +108,24 @@ impl Rotation {
         }
     }
 
+    // All changes, one after the other.
+    pub fn change_all(self, changes: &[Change]) -> Rotation
+        ensures { λ r. ⌜ row r ≡ changed (taken nobody (row self) (meantAll (now (changes .entry)))) (row self) ⌝ }
+    {
+        let mut after = self;
+        for change in changes {
+            after = after.change(*change);
+        }
+        after
+    }
+
     // From one round to the next: the turn, then what changes in the round.
     pub fn next(self, changes: &[Change]) -> (Rotation, Option<u64>)
         ensures after { λ r. ⌜ row (r .0) ≡ next (taken nobody (turned (row self)) (meantAll (now (changes .entry)))) (row self) ⌝ }
         ensures holder { λ r. ⌜ listOf (r .1) ≡ first (row self) ⌝ }
         ensures fair { λ r. ⌜ Fair (row self) (listOf (r .1)) (taken nobody (turned (row self)) (meantAll (now (changes .entry)))) (row (r .0)) ⌝ }
     {
-        let (mut after, holder) = self.turn();
-        for change in changes {
-            after = after.change(*change);
-        }
-        (after, holder)
+        let (after, holder) = self.turn();
+        (after.change_all(changes), holder)
     }
 }

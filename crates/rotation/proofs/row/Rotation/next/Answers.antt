@@ -1,32 +1,15 @@
--- Changes that are taken one by one are those that are taken all at once.
-use mathlib.Core.List.{[]}
-use mathlib.Core.Path.{_≡_, ap, sym, _∙_}
-use lib.ListN.{getD, drop}
-use Prim.Native.Nat.{_+_}
+-- The turn and then the changes are the step from one round to the next.
+use mathlib.Core.Path.{ap, _∙_}
 use Rattle.rotation.proofs.Fairness.{fair}
 use Rattle.rotation.proofs.row.Rotation.next.Needs as need
-use Rattle.rotation.specs.Rows.{row, meant, meantAll, nobody}
-use Rattle.rotation.specs.declared.change.Change.the-variants.{Join}
-use Rattle.std.proofs.shelf.Lists.{at-drop-more, at-drop-all}
-use Rattle.swarm.proofs.Taken.{after, after-more}
+use Rattle.rotation.specs.Rows.{row, meantAll, nobody}
+use Rattle.swarm.proofs.Taken.{after}
 use Rattle.swarm.specs.Code.{taken}
-use Rattle.swarm.specs.Turns.{changed, turned}
-
-pub loop-change-again : need.loop-change-again
-loop-change-again c =
-    let cs = c .args .changes .now in
-    let i = c .loop-change .change-index in
-    let rest = meantAll (drop (i + 1) cs) in
-    ap (λ xs. after nobody rest xs) (c .change-after .ensures) ∙
-    sym (after-more nobody (meant (getD cs i (Join 0))) rest (row (c .loop-change .after))) ∙
-    sym (at-drop-more (λ xs. after nobody (meantAll xs) (row (c .loop-change .after))) cs i (Join 0) (c .loop-change-test .taken)) ∙
-    c .loop-change .inv
+use Rattle.swarm.specs.Turns.{turned}
 
 pub returns : need.returns
-unfolding taken changed
 returns c =
-    let cs = c .args .changes .now in
-    let all = at-drop-all (λ xs. after nobody (meantAll xs) (row (c .loop-change .after))) cs (c .loop-change .change-index) (c .loop-change-test .left) in
-    let e = sym all ∙ c .loop-change .inv ∙ ap (λ xs. after nobody (meantAll cs) xs) (c .turn-holder .ensures .after) in
+    let cs = meantAll (c .args .changes .now) in
+    let e = c .change-all .ensures ∙ ap (λ xs. after nobody cs xs) (c .turn-holder .ensures .after) in
     let f = c .turn-holder .ensures .holder in
-    record { after = e; holder = f; fair = fair (row (c .args .self)) _ (taken nobody (turned (row (c .args .self))) (meantAll cs)) _ f e }
+    record { after = e; holder = f; fair = fair (row (c .args .self)) _ (taken nobody (turned (row (c .args .self))) cs) _ f e }

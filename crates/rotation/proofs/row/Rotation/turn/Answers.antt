@@ -26,6 +26,6 @@ ghost-result c =
 
 pub returns : need.returns
 returns c =
-    let after = turn-front (c .args .self .count) (c .args .self .ids) (c .rotate-left .last .self) _ (omega arith) (simp sub-zero at (c .rotate-left .ensures .after)) in
     let holder = first-front (c .args .self .count) (c .args .self .ids) (omega arith) (omega arith) in
+    let after = turn-front (c .args .self .count) (c .args .self .ids) (c .rotate-left .last .self) _ (omega arith) (simp sub-zero at (c .rotate-left .ensures .after)) in
     record { after = after; holder = holder; fair = λ cs. fair (row (c .args .self)) _ cs _ holder (ap (changed cs) after); round = turn-at }
