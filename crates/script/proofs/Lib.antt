@@ -1,2 +1,13 @@
+pub mod Exits
+pub mod FirstLine
+pub mod FirstWord
+pub mod Leading
+pub mod NextPart
+pub mod NumeralExact
+pub mod ReadDigits
+pub mod ReadWritten
+pub mod Reading
+pub mod SameWord
 pub mod Seeking
 pub mod Standing
+pub mod WrittenRead

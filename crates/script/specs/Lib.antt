@@ -1,3 +1,4 @@
-pub mod Words
-pub mod Statements
+pub mod Laws
 pub mod Sheets
+pub mod Statements
+pub mod Words

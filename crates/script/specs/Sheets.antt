@@ -117,10 +117,15 @@ withWords line s (w ∷ ws) = elim (statement (w ∷ ws)) [ Ok st ↦ more line 
 abbrev pub nextLine : ℕ → ℕ
 nextLine n = min (n + 1) most
 
+-- what was expected, on that line
+abbrev pub numbered : ℕ → Result Sheet Expected → Result Sheet BadLine
+numbered n (Ok s) = Ok s
+numbered n (Err e) = Err (record { line = n; expected = e })
+
 -- the lines that follow line n
 unfoldable pub withLines : ℕ → Sheet → List (List ℕ) → Result Sheet BadLine
 withLines n s [] = finished n s
-withLines n s (l ∷ ls) = elim (withWords (nextLine n) s (words l)) [ Ok t ↦ withLines (nextLine n) t ls | Err e ↦ Err (record { line = nextLine n; expected = e }) ]
+withLines n s (l ∷ ls) = elim (numbered (nextLine n) (withWords (nextLine n) s (words l))) [ Ok t ↦ withLines (nextLine n) t ls | Err b ↦ Err b ]
 
 -- a whole text
 abbrev pub script : List ℕ → Result Sheet BadLine

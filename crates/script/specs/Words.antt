@@ -31,6 +31,11 @@ unfoldable pub words : List ℕ → List (List ℕ)
 words [] = []
 words (b ∷ bs) = cond (eqb b 35) [] (cond (blank b) (words bs) (cond (goesOn bs) (grown b (words bs)) ((b ∷ []) ∷ words bs)))
 
+-- a word in front of others, where it is one
+abbrev pub put : List ℕ → List (List ℕ) → List (List ℕ)
+put [] ws = []
+put (b ∷ w) ws = (b ∷ w) ∷ ws
+
 -- a line longer by a byte in front
 abbrev pub grownLine : ℕ → List (List ℕ) → List (List ℕ)
 grownLine b [] = (b ∷ []) ∷ []
@@ -53,3 +58,7 @@ plain ds = allDigits ds && (ltb 0 (length ds) && (eqb (length ds) 1 || not (eqb 
 -- the number of 64 bits that a word is
 abbrev pub numeral : List ℕ → Option ℕ
 numeral ds = cond (plain ds && ltb (readOn 0 ds) (2 ^ 64)) (Some (readOn 0 ds)) None
+
+-- the number of 64 bits that digits write after the number so far
+abbrev pub onward : ℕ → List ℕ → Option ℕ
+onward n ds = cond (allDigits ds && ltb (readOn n ds) (2 ^ 64)) (Some (readOn n ds)) None

@@ -1,12 +1,17 @@
 // Scripts that say what a swarm goes through: the reader.
 mod links;
+mod message;
 mod number;
+mod parts;
 mod places;
-mod read;
+mod reader;
 mod sheet;
 mod statement;
 mod words;
 
+pub use message::BadLineDisplay;
+pub use message::ExpectedDisplay;
+pub use reader::read;
 pub use sheet::BadLine;
 pub use sheet::Event;
 pub use sheet::LinkEvent;
@@ -15,3 +20,4 @@ pub use sheet::ReadFault;
 pub use sheet::Script;
 pub use statement::Expected;
 pub use statement::Statement;
+pub use statement::read_statement;

@@ -8,7 +8,7 @@ ghost use Rattle.swarm.specs.Tree.{cut};
 pub fn most_pieces() -> u32
     ensures { λ r. ⌜ r ≡ 65536 ⌝ }
 {
-    65536
+    65_536
 }
 
 // How many of `pieces` pieces stand on the left: the greatest power of two below their number, and 1 where there is none.

@@ -1,7 +1,8 @@
 // A whole script, read line by line.
 ghost use Prim.Native.Nat.{_+_};
 ghost use mathlib.Core.Path.{_≡_};
-ghost use Rattle.script.specs.Sheets.{Answers, Reads, sheet, blankSheet, withPeer, withEvent, more, finished};
+ghost use Rattle.script.specs.Sheets.{Answers, Reads, sheet, blankSheet, withPeer, withEvent, withWords, numbered, more, finished, script};
+ghost use Rattle.script.specs.Words.{words};
 use crate::links::first_bad_break;
 use crate::places::EventKeyed;
 use crate::places::PeerKeyed;
@@ -16,11 +17,14 @@ use crate::sheet::Refusal;
 use crate::sheet::Script;
 use crate::statement::Expected;
 use crate::statement::Statement;
+use crate::statement::read_statement;
+use crate::words::next_line;
+use crate::words::next_word;
 use std::alloc::Global;
 
 impl Script {
     // A script that says nothing yet.
-    pub fn new(heap: Global) -> Script
+    fn new(heap: Global) -> Script
         ensures { λ r. ⌜ sheet r ≡ blankSheet ⌝ }
     {
         Script { peers: Vec::new(heap), events: Vec::new(heap), rounds: None }
@@ -85,4 +89,39 @@ impl Script {
             Some(line) => Err(ReadFault::Line(BadLine { line, expected: Expected::StandingLink })),
         }
     }
+
+    // One line more: nothing, or a statement.
+    fn with_line(self, number: u64, line: &[u8]) -> Result<Script, ReadFault>
+        ensures { λ r. ⌜ Reads (numbered number (withWords number (sheet self) (words (now (line .entry))))) r ⌝ }
+    {
+        let (word, _) = next_word(line);
+        if word.is_empty() {
+            return Ok(self);
+        }
+        let expected = match read_statement(line) {
+            Err(expected) => expected,
+            Ok(statement) => match self.with(number, statement) {
+                Ok(script) => return Ok(script),
+                Err(Refusal::NoMemory) => return Err(ReadFault::OutOfMemory),
+                Err(Refusal::Bad(expected)) => expected,
+            },
+        };
+        Err(ReadFault::Line(BadLine { line: number, expected }))
+    }
+}
+
+// The script that a text is, or why it is none.
+pub fn read(heap: Global, text: &[u8]) -> Result<Script, ReadFault>
+    ensures { λ r. ⌜ Reads (script (now (text .entry))) r ⌝ }
+{
+    let mut script = Script::new(heap);
+    let mut number: u64 = 0;
+    let mut rest = Some(text);
+    while let Some(text) = rest {
+        let (line, after) = next_line(text);
+        number = number.saturating_add(1);
+        script = script.with_line(number, line)?;
+        rest = after;
+    }
+    script.finished(number)
 }

@@ -1,0 +1,39 @@
+-- Each line is taken by the definition's own step.
+use mathlib.Core.Path.{_≡_, ap, sym, subst, _∙_}
+use Prim.Native.Nat.{suc, _<_}
+use Rattle.script.proofs.Reading.{left, leftLines, left-less, left-first, taken-line, handed-fault}
+use Rattle.script.proofs.reader.read.Needs as need
+use Rattle.script.specs.Sheets.{Reads, sheet, withLines, finished}
+use Rattle.script.specs.Words.{lines}
+
+pub loop-rest-holds : need.loop-rest-holds
+loop-rest-holds c = ap (λ s. withLines 0 s (lines (c .args .text .now))) (c .new-script .ensures)
+
+pub returns-in-Break-script : need.returns-in-Break-script
+returns-in-Break-script c =
+    let n = c .loop-rest .number in
+    let s = sheet (c .loop-rest .script) in
+    let line = c .next-line .result .0 .now in
+    let after = c .next-line .result .1 in
+    let all = sym (left-first n s (c .loop-rest .rest) (c .in-Some .text) line after (c .in-Some .is) (c .next-line .ensures)) ∙ c .loop-rest .inv in
+    subst (λ said. Reads said (c .from-residual .result)) all
+    (handed-fault n (c .saturating-add-number .result) s line (leftLines after) (c .saturating-add-number .ensures) (c .in-Break-script .field-0 .0) (c .from-residual .result) (c .in-Break-script .ensures tt) (c .from-residual .ensures .1))
+
+pub loop-rest-less : need.loop-rest-less
+loop-rest-less c =
+    subst (λ rest. left (c .next-line .result .1) < left rest) (sym (c .in-Some .is)) (left-less (c .in-Some .text .now) (c .next-line .result .0 .now) (c .next-line .result .1) (c .next-line .ensures))
+
+pub loop-rest-again : need.loop-rest-again
+loop-rest-again c =
+    let n = c .loop-rest .number in
+    let s = sheet (c .loop-rest .script) in
+    let line = c .next-line .result .0 .now in
+    let after = c .next-line .result .1 in
+    sym (taken-line n (c .saturating-add-number .result) s line (leftLines after) (c .saturating-add-number .ensures) (sheet (c .in-Continue-script .script)) (c .in-Continue-script .ensures tt)) ∙
+    sym (left-first n s (c .loop-rest .rest) (c .in-Some .text) line after (c .in-Some .is) (c .next-line .ensures)) ∙ c .loop-rest .inv
+
+pub returns : need.returns
+unfolding withLines
+returns c =
+    let all = sym (ap (λ rest. withLines (c .loop-rest .number) (sheet (c .loop-rest .script)) (leftLines rest)) (c .in-rest .is)) ∙ c .loop-rest .inv in
+    subst (λ said. Reads said (c .finished .result)) all (c .finished .ensures)

@@ -1,0 +1,12 @@
+-- What is left of the text makes of the script as it is now what all of it makes of an empty one.
+use mathlib.Core.Path.{_≡_}
+use Rattle.script.proofs.Reading.{left, leftLines}
+use Rattle.script.proofs.reader.read.Given as given
+use Rattle.script.specs.Sheets.{sheet, blankSheet, withLines}
+use Rattle.script.specs.Words.{lines}
+
+abbrev pub Inv-loop-rest : given.InvT-loop-rest
+Inv-loop-rest l = withLines (l .number) (sheet (l .script)) (leftLines (l .rest)) ≡ withLines 0 blankSheet (lines (l .text))
+
+abbrev pub μ-loop-rest : given.MeasureT-loop-rest
+μ-loop-rest l = left (l .rest)
