@@ -1,4 +1,6 @@
 // The rounds of a script: links come about and break, and at each beginning of a round the first of each rotation has the turn.
+ghost use Prim.Native.Nat.{_≤_};
+ghost use lib.ListN.{length};
 ghost use mathlib.Core.List.{[], _∷_, map};
 ghost use mathlib.Core.Path.{_≡_};
 ghost use Rattle.arena.specs.Seats.{seat, seats, seated, willing, changeAt, linked, parted, happens, happenTill, dueTill, turns, roundAt};
@@ -77,6 +79,7 @@ fn happen(nodes: &mut [Node], event: Event)
 fn happen_till(nodes: &mut [Node], events: &[Event], tick: u64) -> usize
     ensures after { λ _. ⌜ seats (now (nodes .exit)) ≡ happenTill tick (now (events .entry)) (seats (now (nodes .entry))) ⌝ }
     ensures due { λ r. ⌜ r ≡ dueTill tick (now (events .entry)) ⌝ }
+    ensures bound { λ r. ⌜ r ≤ length (now (events .entry)) ⌝ }
 {
     for (i, event) in events.iter().enumerate() {
         if event.at > tick {
@@ -99,6 +102,7 @@ fn begun(node: Node) -> Node
 pub fn begin_round(nodes: &mut [Node], events: &[Event], tick: u64) -> usize
     ensures after { λ _. ⌜ seats (now (nodes .exit)) ≡ roundAt tick (now (events .entry)) (seats (now (nodes .entry))) ⌝ }
     ensures due { λ r. ⌜ r ≡ dueTill tick (now (events .entry)) ⌝ }
+    ensures bound { λ r. ⌜ r ≤ length (now (events .entry)) ⌝ }
 {
     let due = happen_till(nodes, events, tick);
     for i in 0..nodes.len() {

@@ -19,9 +19,11 @@ loop-i-again c = (
 pub returns-then-event-tick : need.returns-then-event-tick
 returns-then-event-tick c = record {
     after = sym (happen-stop (c .args .tick) (c .args .events .now) (c .loop-i .i) (c .loop-i-test .taken) (seats (c .loop-i .nodes)) (c .if-event-tick .taken)) ∙ c .loop-i .inv .0;
-    due = due-stop (c .args .tick) (c .args .events .now) (c .loop-i .i) (c .loop-i-test .taken) (c .if-event-tick .taken) (c .loop-i .inv .1) }
+    due = due-stop (c .args .tick) (c .args .events .now) (c .loop-i .i) (c .loop-i-test .taken) (c .if-event-tick .taken) (c .loop-i .inv .1);
+    bound = omega arith }
 
 pub returns : need.returns
 returns c = record {
     after = sym (happen-end (c .args .tick) (c .args .events .now) (c .loop-i .i) (seats (c .loop-i .nodes)) (c .loop-i-test .left)) ∙ c .loop-i .inv .0;
-    due = due-end (c .args .tick) (c .args .events .now) (c .loop-i .i) (c .loop-i-test .left) (omega arith) (c .loop-i .inv .1) }
+    due = due-end (c .args .tick) (c .args .events .now) (c .loop-i .i) (c .loop-i-test .left) (omega arith) (c .loop-i .inv .1);
+    bound = omega arith }

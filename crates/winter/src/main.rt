@@ -1,0 +1,85 @@
+// Plays each script that the command line names, and prints for each round who has the turn at each honest peer.
+use arena::Node;
+use arena::begin_round;
+use arena::seat_all;
+use script::BadLineDisplay;
+use script::ReadFault;
+use script::Script;
+use script::read;
+use std::env;
+use std::error::AnyError;
+use std::fs;
+
+// How many ticks a round has.
+const ROUND_TICKS: u64 = 64;
+
+fn main(rt: LibcRuntime) -> Result<(), AnyError> {
+    let mut played = false;
+    for path in env::args(&rt)?.skip(1) {
+        play_file(&rt, path.as_str())?;
+        played = true;
+    }
+    if !played {
+        eprintln!(rt, "winter: expected the names of scripts")?;
+        return Err("no script".into());
+    }
+    Ok(())
+}
+
+// Reads a script and plays it; what is wrong with it is said on standard error.
+fn play_file(rt: &LibcRuntime, path: &str) -> Result<(), AnyError> {
+    let Ok(text) = fs::read(rt, path) else {
+        eprintln!(rt, "winter: {path}: it can't be read")?;
+        return Err("no script".into());
+    };
+    match read(rt.alloc(), text.as_slice()) {
+        Ok(script) => {
+            let name = name_of(path);
+            println!(rt, "winter {name}")?;
+            play(rt, &script)
+        }
+        Err(ReadFault::Line(bad)) => {
+            eprintln!(rt, "winter: {path}: {bad}")?;
+            Err("bad script".into())
+        }
+        Err(ReadFault::OutOfMemory) => {
+            eprintln!(rt, "winter: {path}: there is no memory for it")?;
+            Err("no memory".into())
+        }
+    }
+}
+
+// The last part of a path.
+fn name_of(path: &str) -> &str {
+    match path.rsplit_once('/') {
+        Some((_, name)) => name,
+        None => path,
+    }
+}
+
+// Plays the rounds of a script.
+fn play(rt: &LibcRuntime, script: &Script) -> Result<(), AnyError> {
+    let mut nodes = seat_all(rt.alloc(), script.peers.as_slice())?;
+    let mut rest = script.events.as_slice();
+    for round in 0..script.rounds.unwrap_or(0) {
+        let due = begin_round(nodes.as_mut_slice(), rest, round.saturating_mul(ROUND_TICKS));
+        let (_, later) = rest.split_at(due);
+        rest = later;
+        print_round(rt, round, nodes.as_slice())?;
+    }
+    Ok(())
+}
+
+// One round: at each honest peer who has the turn, or a dash where nobody has it.
+fn print_round(rt: &LibcRuntime, round: u64, nodes: &[Node]) -> Result<(), AnyError> {
+    print!(rt, "round {round} | turns")?;
+    for node in nodes {
+        let id = node.id;
+        match node.holder {
+            Some(holder) => print!(rt, " {id}:{holder}")?,
+            None => print!(rt, " {id}:-")?,
+        }
+    }
+    println!(rt, "")?;
+    Ok(())
+}
