@@ -35,7 +35,11 @@ fn changed(node: Node, id: u64, changes: &[Change]) -> Node
     if node.id != id {
         return node;
     }
-    Node { id, rotation: node.rotation.change_all(changes), holder: node.holder }
+    Node {
+        id,
+        rotation: node.rotation.change_all(changes),
+        holder: node.holder,
+    }
 }
 
 // The rotation of peer `id` changes.
@@ -95,7 +99,11 @@ fn begun(node: Node) -> Node
     ensures { λ r. ⌜ seat r ≡ turns (seat node) ⌝ }
 {
     let (rotation, holder) = node.rotation.turn();
-    Node { id: node.id, rotation, holder }
+    Node {
+        id: node.id,
+        rotation,
+        holder,
+    }
 }
 
 // What is due up to a tick happens, and then a round begins at each peer; the answer is how many events happened.
@@ -118,7 +126,11 @@ pub fn seat_all(heap: Global, peers: &[Peer]) -> Result<Vec<Node>, AllocError>
     let mut nodes = Vec::new(heap);
     for peer in peers {
         if peer.honest {
-            nodes.push(Node { id: peer.id, rotation: Rotation::new(), holder: None })?;
+            nodes.push(Node {
+                id: peer.id,
+                rotation: Rotation::new(),
+                holder: None,
+            })?;
         }
     }
     Ok(nodes)

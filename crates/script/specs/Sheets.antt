@@ -105,8 +105,9 @@ badBreak past (e ∷ es) = cond (opening (e .what) || stands e false past) (badB
 -- the whole sheet after its last line: it says how many rounds, and breaks only links that stand
 abbrev pub finished : ℕ → Sheet → Result Sheet BadLine
 finished line s = elim (s .rounds) [
-    None ↦ Err (record { line = line; expected = Expected.Rounds })
-  | Some n ↦ elim (badBreak [] (s .events)) [ None ↦ Ok s | Some bad ↦ Err (record { line = bad; expected = Expected.StandingLink }) ] ]
+  | None ↦ Err (record { line = line; expected = Expected.Rounds })
+  | Some n ↦ elim (badBreak [] (s .events)) [ None ↦ Ok s | Some bad ↦ Err (record { line = bad; expected = Expected.StandingLink }) ]
+]
 
 -- a line: nothing, or a statement
 abbrev pub withWords : ℕ → Sheet → List (List ℕ) → Result Sheet Expected

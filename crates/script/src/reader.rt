@@ -27,7 +27,11 @@ impl Script {
     fn new(heap: Global) -> Script
         ensures { λ r. ⌜ sheet r ≡ blankSheet ⌝ }
     {
-        Script { peers: Vec::new(heap), events: Vec::new(heap), rounds: None }
+        Script {
+            peers: Vec::new(heap),
+            events: Vec::new(heap),
+            rounds: None,
+        }
     }
 
     // One peer more, at its place by its number.
@@ -71,9 +75,24 @@ impl Script {
         match statement {
             Statement::Peer(id) => self.with_peer(Peer { id, honest: true }),
             Statement::False(id) => self.with_peer(Peer { id, honest: false }),
-            Statement::Link { a, b, at, delay } => self.with_event(Event { at, a, b, what: LinkEvent::Opens(delay), line }),
-            Statement::Break { a, b, at } => self.with_event(Event { at, a, b, what: LinkEvent::Breaks, line }),
-            Statement::Rounds(count) => Ok(Script { rounds: Some(count), ..self }),
+            Statement::Link { a, b, at, delay } => self.with_event(Event {
+                at,
+                a,
+                b,
+                what: LinkEvent::Opens(delay),
+                line,
+            }),
+            Statement::Break { a, b, at } => self.with_event(Event {
+                at,
+                a,
+                b,
+                what: LinkEvent::Breaks,
+                line,
+            }),
+            Statement::Rounds(count) => Ok(Script {
+                rounds: Some(count),
+                ..self
+            }),
         }
     }
 
@@ -82,11 +101,17 @@ impl Script {
         ensures { λ r. ⌜ Reads (finished last (sheet self)) r ⌝ }
     {
         if self.rounds.is_none() {
-            return Err(ReadFault::Line(BadLine { line: last, expected: Expected::Rounds }));
+            return Err(ReadFault::Line(BadLine {
+                line: last,
+                expected: Expected::Rounds,
+            }));
         }
         match first_bad_break(self.events.as_slice()) {
             None => Ok(self),
-            Some(line) => Err(ReadFault::Line(BadLine { line, expected: Expected::StandingLink })),
+            Some(line) => Err(ReadFault::Line(BadLine {
+                line,
+                expected: Expected::StandingLink,
+            })),
         }
     }
 
@@ -106,7 +131,10 @@ impl Script {
                 Err(Refusal::Bad(expected)) => expected,
             },
         };
-        Err(ReadFault::Line(BadLine { line: number, expected }))
+        Err(ReadFault::Line(BadLine {
+            line: number,
+            expected,
+        }))
     }
 }
 

@@ -13,31 +13,41 @@ use std::fs;
 // How many ticks a round has.
 const ROUND_TICKS: u64 = 64;
 
+// A script that was read, with the name that is printed for it.
+#[derive(Drop)]
+struct Named {
+    name: String,
+    script: Script,
+}
+
 fn main(rt: LibcRuntime) -> Result<(), AnyError> {
-    let mut played = false;
+    let mut scripts = Vec::new(rt.alloc());
     for path in env::args(&rt)?.skip(1) {
-        play_file(&rt, path.as_str())?;
-        played = true;
+        scripts.push(read_file(&rt, path.as_str())?)?;
     }
-    if !played {
+    if scripts.is_empty() {
         eprintln!(rt, "winter: expected the names of scripts")?;
         return Err("no script".into());
+    }
+    for named in scripts {
+        rt.print("winter ")?;
+        rt.println(named.name.as_str())?;
+        play(&rt, &named.script)?;
     }
     Ok(())
 }
 
-// Reads a script and plays it; what is wrong with it is said on standard error.
-fn play_file(rt: &LibcRuntime, path: &str) -> Result<(), AnyError> {
+// Reads a script; what is wrong with it is said on standard error.
+fn read_file(rt: &LibcRuntime, path: &str) -> Result<Named, AnyError> {
     let Ok(text) = fs::read(rt, path) else {
         eprintln!(rt, "winter: {path}: it can't be read")?;
         return Err("no script".into());
     };
     match read(rt.alloc(), text.as_slice()) {
-        Ok(script) => {
-            let name = name_of(path);
-            println!(rt, "winter {name}")?;
-            play(rt, &script)
-        }
+        Ok(script) => Ok(Named {
+            name: String::from_str(rt.alloc(), name_of(path))?,
+            script,
+        }),
         Err(ReadFault::Line(bad)) => {
             eprintln!(rt, "winter: {path}: {bad}")?;
             Err("bad script".into())
@@ -62,7 +72,11 @@ fn play(rt: &LibcRuntime, script: &Script) -> Result<(), AnyError> {
     let mut nodes = seat_all(rt.alloc(), script.peers.as_slice())?;
     let mut rest = script.events.as_slice();
     for round in 0..script.rounds.unwrap_or(0) {
-        let due = begin_round(nodes.as_mut_slice(), rest, round.saturating_mul(ROUND_TICKS));
+        let due = begin_round(
+            nodes.as_mut_slice(),
+            rest,
+            round.saturating_mul(ROUND_TICKS),
+        );
         let (_, later) = rest.split_at(due);
         rest = later;
         print_round(rt, round, nodes.as_slice())?;

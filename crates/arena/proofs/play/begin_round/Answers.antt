@@ -13,6 +13,7 @@ loop-i-again c =
 
 pub returns : need.returns
 returns c = record {
-    after = mapped-all seat turns (c .happen-till-due .last .nodes) (c .loop-i .nodes) (c .loop-i .i) (c .loop-i-test .left) (c .loop-i .inv) ∙ ap (map turns) (c .happen-till-due .ensures .after);
-    due = c .happen-till-due .ensures .due;
-    bound = c .happen-till-due .ensures .bound }
+  after = mapped-all seat turns (c .happen-till-due .last .nodes) (c .loop-i .nodes) (c .loop-i .i) (c .loop-i-test .left) (c .loop-i .inv) ∙ ap (map turns) (c .happen-till-due .ensures .after);
+  due = c .happen-till-due .ensures .due;
+  bound = c .happen-till-due .ensures .bound;
+}

@@ -15,8 +15,9 @@ pub loop-node-again : need.loop-node-again
 loop-node-again c =
     let e = willing-next (c .args .id) (c .args .other) (c .args .nodes .now) (c .loop-node .node-index) (c .node-item .result) (c .loop-node-test .taken) (c .node-item .is) in
     elim (c .else-node-id .came) [
-      else-node-id·by·then-node-id·else-not-takes w ↦ let n = w .if-not-takes .ensures tt in grind (arith, tells)
-    | else-node-id·by·else-node-id w ↦ grind (arith, tells) ]
+      | else-node-id·by·then-node-id·else-not-takes w ↦ let n = w .if-not-takes .ensures tt in grind (arith, tells)
+      | else-node-id·by·else-node-id w ↦ grind (arith, tells)
+    ]
 
 pub returns : need.returns
 returns c = sym (willing-end (c .args .id) (c .args .other) (c .args .nodes .now) (c .loop-node .node-index) (c .loop-node-test .left)) ∙ c .loop-node .inv

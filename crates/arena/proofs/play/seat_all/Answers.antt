@@ -14,11 +14,12 @@ loop-peer-again c =
     let before = vec-items (c .loop-peer .nodes) in
     let after = vec-items (c .if-peer .nodes) in
     elim (c .if-peer .came) [
-      then-peer·in-Continue-push w ↦
-        seated-honest before after (c .args .peers .now) (c .loop-peer .peer-index) (c .loop-peer-test .taken) (c .loop-peer .inv) _ (w .if-peer .taken)
-        (ap (λ (ids : List ℕ). record { id = getD (c .args .peers .now) (c .loop-peer .peer-index) noPeer .id; row = ids; holder = [] }) (w .new .ensures)) (ap vec-items (w .nodes-is) ∙ w .in-Continue-push .ensures tt .items)
-    | else-peer w ↦
-        seated-faulty before after (c .args .peers .now) (c .loop-peer .peer-index) (c .loop-peer-test .taken) (c .loop-peer .inv) (w .if-peer .left) (ap vec-items (w .nodes-is)) ]
+      | then-peer·in-Continue-push w ↦
+          seated-honest before after (c .args .peers .now) (c .loop-peer .peer-index) (c .loop-peer-test .taken) (c .loop-peer .inv) _ (w .if-peer .taken)
+          (ap (λ (ids : List ℕ). record { id = getD (c .args .peers .now) (c .loop-peer .peer-index) noPeer .id; row = ids; holder = [] }) (w .new .ensures)) (ap vec-items (w .nodes-is) ∙ w .in-Continue-push .ensures tt .items)
+      | else-peer w ↦
+          seated-faulty before after (c .args .peers .now) (c .loop-peer .peer-index) (c .loop-peer-test .taken) (c .loop-peer .inv) (w .if-peer .left) (ap vec-items (w .nodes-is))
+    ]
 
 pub returns : need.returns
 returns c = sym (append-nil _) ∙ ap (λ ss. seats (vec-items (c .loop-peer .nodes)) ++ ss) (sym (seated-end (c .args .peers .now) (c .loop-peer .peer-index) (c .loop-peer-test .left))) ∙ c .loop-peer .inv

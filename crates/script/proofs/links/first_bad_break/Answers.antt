@@ -15,8 +15,9 @@ pub loop-i-again : need.loop-i-again
 loop-i-again c =
     bad-later (c .args .events .now) (c .loop-i .i) (c .loop-i-test .taken)
     (elim (c .else-not-is-opening .came) [
-      else-not-is-opening·by·then-not-is-opening·else-not-is-standing w ↦ or-right _ _ (sym (simp sub-zero at (w .if-not-is-standing .ensures tt)))
-    | else-not-is-opening·by·else-not-is-opening w ↦ or-left _ _ (sym (w .if-not-is-opening .ensures tt)) ])
+      | else-not-is-opening·by·then-not-is-opening·else-not-is-standing w ↦ or-right _ _ (sym (simp sub-zero at (w .if-not-is-standing .ensures tt)))
+      | else-not-is-opening·by·else-not-is-opening w ↦ or-left _ _ (sym (w .if-not-is-opening .ensures tt))
+    ])
     (c .loop-i .inv)
 
 pub returns : need.returns

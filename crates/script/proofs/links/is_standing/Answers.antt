@@ -13,8 +13,9 @@ use Rattle.script.specs.Sheets.{samePair, opening, stands}
 stands-now : (c : need.Joined-same-pair) → let e = getD (c .args .past .now) (c .loop-event .event-index) noEvent in
     c .if-same-pair .standing ≡ cond (samePair e (c .args .of)) (opening (e .what)) (c .loop-event .standing)
 stands-now c = elim (c .if-same-pair .came) [
-      then-same-pair w ↦ w .standing-is ∙ w .is-opening-standing .ensures ∙ sym (cond-true _ _ _ (sym (w .if-same-pair .ensures tt)))
-    | else-same-pair w ↦ w .standing-is ∙ sym (cond-false _ _ _ (sym (w .if-same-pair .ensures tt))) ]
+  | then-same-pair w ↦ w .standing-is ∙ w .is-opening-standing .ensures ∙ sym (cond-true _ _ _ (sym (w .if-same-pair .ensures tt)))
+  | else-same-pair w ↦ w .standing-is ∙ sym (cond-false _ _ _ (sym (w .if-same-pair .ensures tt)))
+]
 
 pub loop-event-again : need.loop-event-again
 loop-event-again c =

@@ -9,9 +9,10 @@ loop-i-holds g c = omega arith
 
 pub returns-then-new-key : need.returns-then-new-key
 returns-then-new-key g c = record {
-    value = place-here (g .T·Keyed .key) (c .args .new) (c .args .items .now) (c .loop-i .i) (c .index-items-i .result) (c .loop-i-test .taken)
-    (omega (arith, c .key .ensures, ap (g .T·Keyed .key) (c .index-items-i .is))) (c .loop-i .inv);
-    bound = omega arith }
+  value = place-here (g .T·Keyed .key) (c .args .new) (c .args .items .now) (c .loop-i .i) (c .index-items-i .result) (c .loop-i-test .taken)
+      (omega (arith, c .key .ensures, ap (g .T·Keyed .key) (c .index-items-i .is))) (c .loop-i .inv);
+  bound = omega arith;
+}
 
 pub loop-i-again : need.loop-i-again
 loop-i-again g c =
@@ -20,5 +21,6 @@ loop-i-again g c =
 
 pub returns : need.returns
 returns g c = record {
-    value = place-end (g .T·Keyed .key) (c .args .new) (c .args .items .now) (c .loop-i .i) (omega arith) (c .loop-i .inv);
-    bound = omega arith }
+  value = place-end (g .T·Keyed .key) (c .args .new) (c .args .items .now) (c .loop-i .i) (omega arith) (c .loop-i .inv);
+  bound = omega arith;
+}
