@@ -1,3 +1,4 @@
 pub mod Due
 pub mod InPlace
+pub mod Staying
 pub mod Willing

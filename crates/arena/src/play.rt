@@ -3,6 +3,7 @@ ghost use Prim.Native.Nat.{_≤_};
 ghost use lib.ListN.{length};
 ghost use mathlib.Core.List.{[], _∷_, map};
 ghost use mathlib.Core.Path.{_≡_};
+ghost use Rattle.arena.specs.Fairness.{FairRounds};
 ghost use Rattle.arena.specs.Seats.{seat, seats, seated, willing, changeAt, linked, parted, happens, happenTill, dueTill, turns, roundAt};
 ghost use Rattle.rotation.specs.Rows.{meantAll};
 ghost use Rattle.std.specs.Of.Vec.{vec-items};
@@ -111,6 +112,7 @@ pub fn begin_round(nodes: &mut [Node], events: &[Event], tick: u64) -> usize
     ensures after { λ _. ⌜ seats (now (nodes .exit)) ≡ roundAt tick (now (events .entry)) (seats (now (nodes .entry))) ⌝ }
     ensures due { λ r. ⌜ r ≡ dueTill tick (now (events .entry)) ⌝ }
     ensures bound { λ r. ⌜ r ≤ length (now (events .entry)) ⌝ }
+    ensures fair { λ r. ⌜ FairRounds ⌝ }
 {
     let due = happen_till(nodes, events, tick);
     for i in 0..nodes.len() {
