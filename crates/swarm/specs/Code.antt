@@ -86,3 +86,7 @@ GivesOne r q State c =
     fits r (c .asks p told s) (getD (r .file) (c .asks p told s) d) (way (c .asks p told s) (r .file)) ≡ true →
     (x : ℕ) × (x < size r) × (told x ≡ true) × (c .has s x ≡ false) × (c .has (c .comes p x (getD (r .file) x d) (way x (r .file)) (c .ask p x s)) x ≡ true) ×
     (c .shut (c .comes p x (getD (r .file) x d) (way x (r .file)) (c .ask p x s)) p ≡ false)
+
+-- Whatever code does what it must gives one piece more in a turn.
+abbrev pub CodeGivesOne : Type 0 → Type 0
+CodeGivesOne State = (r : Rules) (q : ℕ) (c : Code r q State) → GivesOne r q State c

@@ -8,7 +8,7 @@ use lib.ListN.{length, getD, take}
 use Rattle.swarm.specs.Tree.{Dig, way}
 use Rattle.swarm.specs.Turns.{Change, Joins, Leaves, isIn, without, changed, turned}
 use Rattle.swarm.specs.Swarm.{Rules, size, fits}
-use Rattle.swarm.specs.Code.{taken}
+use Rattle.swarm.specs.Code.{Code, taken}
 
 -- the ask of a friend that is yet to be met: the newest only
 pub data Held : Type 0 where
@@ -159,3 +159,11 @@ Settled h s = (h .see s .rotation ≡ turned (h .see s .row)) × ((q : ℕ) (qs 
 
 abbrev pub SettledState : {r : Rules} {p : ℕ} {State : Type 0} → Honest r p State → Type 0
 SettledState {State = State} h = (s : State) × Settled h s
+
+-- A peer that keeps to the rules step by step does what the code of a peer must do, with states of any type.
+abbrev pub HonestIsCode : Type 0 → Type 0
+HonestIsCode State = (r : Rules) (p : ℕ) (h : Honest r p State) → Code r p (SettledState h)
+
+-- There are such peers.
+abbrev pub HonestIsMet : Type 0
+HonestIsMet = (r : Rules) (p : ℕ) → Honest r p (Plain r)
