@@ -1,16 +1,18 @@
 -- What is left to read of a text makes, line by line, what the whole of it makes.
+use mathlib.Core.Bool.{Bool, true, false, _||_}
 use mathlib.Core.List.{List, [], _∷_}
 use mathlib.Core.Path.{_≡_, refl, sym, ap, subst, _∙_}
 use Prim.Native.Nat.{ℕ, suc, _<_}
 use denote.Ref.{RefT}
 use lib.ListN.{length}
 use native.Mathlib.Omega.{arith}
-use Rattle.script.specs.Sheets.{Sheet, Reads, sheet, nextLine, numbered, withWords, withLines}
+use Rattle.script.specs.Sheets.{Sheet, Reads, sheet, nextLine, numbered, withWords, withLines, keptLine, keptLines}
 use Rattle.script.specs.Words.{words, lines}
 use Rattle.script.specs.declared.sheet.BadLine.{BadLine}
 use Rattle.script.specs.declared.sheet.ReadFault.{ReadFault}
 use Rattle.script.specs.declared.sheet.ReadFault.the-variants.{Line, OutOfMemory}
 use Rattle.script.specs.declared.sheet.Script.{Script}
+use Rattle.std.proofs.shelf.Tests.{or-left, or-right}
 use Rattle.std.specs.Options.{Cases}
 use Rattle.std.specs.Results.{ErrBy}
 use Rattle.std.specs.declared.option.Option.{Option}
@@ -41,13 +43,15 @@ left-less text line None h = omega arith
 left-less text line (Some t) h = omega (arith, h .1)
 
 -- what is left begins with that line
-pub left-first : (n : ℕ) (s : Sheet) (rest : Option (RefT (List ℕ))) (text : RefT (List ℕ)) (line : List ℕ) (after : Option (RefT (List ℕ))) → rest ≡ Some text → First (text .now) line after →
-    withLines n s (leftLines rest) ≡ withLines n s (line ∷ leftLines after)
-left-first n s rest text line after e h = ap (λ r. withLines n s (leftLines r)) e ∙ ap (withLines n s) (lines-first (text .now) line after h)
+pub left-first : (rest : Option (RefT (List ℕ))) (text : RefT (List ℕ)) (line : List ℕ) (after : Option (RefT (List ℕ))) → rest ≡ Some text → First (text .now) line after → leftLines rest ≡ line ∷ leftLines after
+left-first rest text line after e h = ap leftLines e ∙ lines-first (text .now) line after h
 
 -- what follows a line that is read
 abbrev go-on : ℕ → List (List ℕ) → Result Sheet BadLine → Result Sheet BadLine
 go-on k ls r = elim r [ Ok t ↦ withLines k t ls | Err b ↦ Err b ]
+
+abbrev keep-on : ℕ → List (List ℕ) → Result Sheet BadLine → Bool
+keep-on k ls r = elim r [ Ok t ↦ keptLines k t ls | Err b ↦ false ]
 
 -- a line that is taken, or the first that is not
 module _ (n k : ℕ) (s : Sheet) (l : List ℕ) (ls : List (List ℕ)) (next : k ≡ nextLine n) where
@@ -61,8 +65,23 @@ module _ (n k : ℕ) (s : Sheet) (l : List ℕ) (ls : List (List ℕ)) (next : k
   refused-line : (b : BadLine) → numbered k (withWords k s (words l)) ≡ Err b → withLines n s (l ∷ ls) ≡ Err b
   refused-line b e = line-first ∙ ap (go-on k ls) e
 
+  kept-first : keptLines n s (l ∷ ls) ≡ (keptLine k s (words l) || keep-on k ls (numbered k (withWords k s (words l))))
+  unfolding keptLines
+  kept-first = subst (λ (k : ℕ). keptLines n s (l ∷ ls) ≡ (keptLine k s (words l) || keep-on k ls (numbered k (withWords k s (words l))))) (sym next) refl
+
+  -- a later line that wants memory is one of these
+  pub kept-later : (t : Sheet) → numbered k (withWords k s (words l)) ≡ Ok t → keptLines k t ls ≡ true → keptLines n s (l ∷ ls) ≡ true
+  kept-later t e h = kept-first ∙ or-right _ _ (ap (keep-on k ls) e ∙ h)
+
   -- a refusal is handed on as it is
-  pub handed-fault : (f : ReadFault) (r : Result Script ReadFault) → Reads (numbered k (withWords k s (words l))) (Err f) → ErrBy r (λ g. g ≡ f) → Reads (withLines n s (l ∷ ls)) r
+  pub handed-fault : (f : ReadFault) (r : Result Script ReadFault) → Reads (keptLine k s (words l) ≡ true) (numbered k (withWords k s (words l))) (Err f) → ErrBy r (λ g. g ≡ f) →
+      Reads (keptLines n s (l ∷ ls) ≡ true) (withLines n s (l ∷ ls)) r
   handed-fault f (Ok x) h e = absurd e
-  handed-fault (Line b) (Err g) h e = subst (λ (g : ReadFault). Reads (withLines n s (l ∷ ls)) (Err g)) (sym e) (refused-line b h)
-  handed-fault OutOfMemory (Err g) h e = subst (λ (g : ReadFault). Reads (withLines n s (l ∷ ls)) (Err g)) (sym e) tt
+  handed-fault (Line b) (Err g) h e = subst (λ (g : ReadFault). Reads (keptLines n s (l ∷ ls) ≡ true) (withLines n s (l ∷ ls)) (Err g)) (sym e) (refused-line b h)
+  handed-fault OutOfMemory (Err g) h e = subst (λ (g : ReadFault). Reads (keptLines n s (l ∷ ls) ≡ true) (withLines n s (l ∷ ls)) (Err g)) (sym e) (kept-first ∙ or-left _ _ h)
+
+-- an answer to the rest is one to the whole
+pub reads-whole : {wants wants′ : Type 0} {said said′ : Result Sheet BadLine} (r : Result Script ReadFault) → (wants → wants′) → said ≡ said′ → Reads wants said r → Reads wants′ said′ r
+reads-whole (Ok s) f e h = sym e ∙ h
+reads-whole (Err (Line b)) f e h = sym e ∙ h
+reads-whole (Err OutOfMemory) f e h = f h

@@ -23,6 +23,7 @@ use Rattle.script.specs.declared.statement.Statement.{Statement}
 use Rattle.script.specs.declared.statement.Statement.the-variants as Statement
 use Rattle.std.specs.Holes.{inserted}
 use Rattle.std.specs.Of.Vec.{vec-items}
+use Rattle.std.specs.Results.{isOk}
 use Rattle.std.specs.declared.option.Option.{Option}
 use Rattle.std.specs.declared.option.Option.the-variants.{Some, None}
 use Rattle.std.specs.declared.result.Result.{Result}
@@ -78,11 +79,19 @@ withStatement line (Statement.Rounds n) s = Ok (record { peers = s .peers; event
 abbrev pub more : ℕ → Sheet → Statement → Result Sheet Expected
 more line s st = elim (s .rounds) [ None ↦ withStatement line st s | Some n ↦ Err Expected.Nothing ]
 
--- an answer is the sheet's, or there was no memory for it
-abbrev pub Answers : Result Sheet Expected → Result Script Refusal → Type 0
-Answers said (Ok s) = said ≡ Ok (sheet s)
-Answers said (Err (Bad e)) = said ≡ Err e
-Answers said (Err NoMemory) = Unit {0}
+-- an answer is the sheet's; or there was no memory, which can be only where this is so
+abbrev pub Answers : Type 0 → Result Sheet Expected → Result Script Refusal → Type 0
+Answers wants said (Ok s) = said ≡ Ok (sheet s)
+Answers wants said (Err (Bad e)) = said ≡ Err e
+Answers wants said (Err NoMemory) = wants
+
+-- does a statement want memory
+abbrev pub kept : Statement → Bool
+kept (Statement.Peer n) = true
+kept (Statement.False n) = true
+kept (Statement.Link a b t d) = true
+kept (Statement.Break a b t) = true
+kept (Statement.Rounds n) = false
 
 -- are two events of one pair of peers
 abbrev pub samePair : Event → Event → Bool
@@ -132,8 +141,18 @@ withLines n s (l ∷ ls) = elim (numbered (nextLine n) (withWords (nextLine n) s
 abbrev pub script : List ℕ → Result Sheet BadLine
 script text = withLines 0 blankSheet (lines text)
 
--- an answer is the text's, or there was no memory for it
-abbrev pub Reads : Result Sheet BadLine → Result Script ReadFault → Type 0
-Reads said (Ok s) = said ≡ Ok (sheet s)
-Reads said (Err (Line b)) = said ≡ Err b
-Reads said (Err OutOfMemory) = Unit {0}
+-- does a line have a statement that is taken and wants memory
+abbrev pub keptLine : ℕ → Sheet → List (List ℕ) → Bool
+keptLine line s [] = false
+keptLine line s (w ∷ ws) = elim (statement (w ∷ ws)) [ Ok st ↦ kept st && isOk (more line s st) | Err e ↦ false ]
+
+-- does one of the lines that follow line n, before the first bad one
+unfoldable pub keptLines : ℕ → Sheet → List (List ℕ) → Bool
+keptLines n s [] = false
+keptLines n s (l ∷ ls) = keptLine (nextLine n) s (words l) || elim (numbered (nextLine n) (withWords (nextLine n) s (words l))) [ Ok t ↦ keptLines (nextLine n) t ls | Err b ↦ false ]
+
+-- an answer is the text's; or there was no memory, which can be only where this is so
+abbrev pub Reads : Type 0 → Result Sheet BadLine → Result Script ReadFault → Type 0
+Reads wants said (Ok s) = said ≡ Ok (sheet s)
+Reads wants said (Err (Line b)) = said ≡ Err b
+Reads wants said (Err OutOfMemory) = wants

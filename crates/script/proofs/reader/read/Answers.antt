@@ -1,13 +1,15 @@
 -- Each line is taken by the definition's own step.
+use mathlib.Core.Bool.{true}
 use mathlib.Core.Path.{_≡_, ap, sym, subst, _∙_}
-use Prim.Native.Nat.{suc, _<_}
-use Rattle.script.proofs.Reading.{left, leftLines, left-less, left-first, taken-line, handed-fault}
+use Prim.Native.Nat.{_<_}
+use Rattle.script.proofs.Reading.{left, leftLines, left-less, left-first, taken-line, kept-later, handed-fault, reads-whole}
 use Rattle.script.proofs.reader.read.Needs as need
-use Rattle.script.specs.Sheets.{Reads, sheet, withLines, finished}
+use Rattle.script.specs.Sheets.{sheet, withLines, keptLines}
 use Rattle.script.specs.Words.{lines}
 
 pub loop-rest-holds : need.loop-rest-holds
-loop-rest-holds c = ap (λ s. withLines 0 s (lines (c .args .text .now))) (c .new-script .ensures)
+loop-rest-holds c =
+    (ap (λ s. withLines 0 s (lines (c .args .text .now))) (c .new-script .ensures), λ h. sym (ap (λ s. keptLines 0 s (lines (c .args .text .now))) (c .new-script .ensures)) ∙ h)
 
 pub returns-in-Break-script : need.returns-in-Break-script
 returns-in-Break-script c =
@@ -15,8 +17,8 @@ returns-in-Break-script c =
     let s = sheet (c .loop-rest .script) in
     let line = c .next-line .result .0 .now in
     let after = c .next-line .result .1 in
-    let all = sym (left-first n s (c .loop-rest .rest) (c .in-Some .text) line after (c .in-Some .is) (c .next-line .ensures)) ∙ c .loop-rest .inv in
-    subst (λ said. Reads said (c .from-residual .result)) all
+    let first = left-first (c .loop-rest .rest) (c .in-Some .text) line after (c .in-Some .is) (c .next-line .ensures) in
+    reads-whole (c .from-residual .result) (λ h. c .loop-rest .inv .1 (ap (keptLines n s) first ∙ h)) (sym (ap (withLines n s) first) ∙ c .loop-rest .inv .0)
     (handed-fault n (c .saturating-add-number .result) s line (leftLines after) (c .saturating-add-number .ensures) (c .in-Break-script .field-0 .0) (c .from-residual .result) (c .in-Break-script .ensures tt) (c .from-residual .ensures .1))
 
 pub loop-rest-less : need.loop-rest-less
@@ -26,14 +28,17 @@ loop-rest-less c =
 pub loop-rest-again : need.loop-rest-again
 loop-rest-again c =
     let n = c .loop-rest .number in
+    let k = c .saturating-add-number .result in
     let s = sheet (c .loop-rest .script) in
+    let t = sheet (c .in-Continue-script .script) in
     let line = c .next-line .result .0 .now in
-    let after = c .next-line .result .1 in
-    sym (taken-line n (c .saturating-add-number .result) s line (leftLines after) (c .saturating-add-number .ensures) (sheet (c .in-Continue-script .script)) (c .in-Continue-script .ensures tt)) ∙
-    sym (left-first n s (c .loop-rest .rest) (c .in-Some .text) line after (c .in-Some .is) (c .next-line .ensures)) ∙ c .loop-rest .inv
+    let after = leftLines (c .next-line .result .1) in
+    let first = left-first (c .loop-rest .rest) (c .in-Some .text) line (c .next-line .result .1) (c .in-Some .is) (c .next-line .ensures) in
+    (sym (taken-line n k s line after (c .saturating-add-number .ensures) t (c .in-Continue-script .ensures tt)) ∙ sym (ap (withLines n s) first) ∙ c .loop-rest .inv .0,
+    λ h. c .loop-rest .inv .1 (ap (keptLines n s) first ∙ kept-later n k s line after (c .saturating-add-number .ensures) t (c .in-Continue-script .ensures tt) h))
 
 pub returns : need.returns
 unfolding withLines
 returns c =
-    let all = sym (ap (λ rest. withLines (c .loop-rest .number) (sheet (c .loop-rest .script)) (leftLines rest)) (c .in-rest .is)) ∙ c .loop-rest .inv in
-    subst (λ said. Reads said (c .finished .result)) all (c .finished .ensures)
+    reads-whole (c .finished .result) (λ no-memory. absurd no-memory)
+    (sym (ap (λ rest. withLines (c .loop-rest .number) (sheet (c .loop-rest .script)) (leftLines rest)) (c .in-rest .is)) ∙ c .loop-rest .inv .0) (c .finished .ensures)
