@@ -4,7 +4,7 @@ use mathlib.Core.List.{List, [], _∷_, _++_, append-assoc}
 use mathlib.Core.Path.{_≡_, refl, ap, sym, _∙_}
 use Prim.Native.Nat.{ℕ, suc, _+_, _<_, _≤_}
 use lib.Dec.{leb}
-use lib.ListN.{length, getD, drop}
+use lib.ListN.{length, getD, drop, length-append}
 use native.Mathlib.Omega.{arith}
 use Rattle.arena.specs.Seats.{Seat, seat, seats, happens, happenTill, dueTill, seated}
 use Rattle.arena.specs.declared.node.Node.{Node}
@@ -72,3 +72,8 @@ module _ (ns ms : List Node) (ps : List Peer) (i : ℕ) (h : i < length ps) (inv
 
   pub seated-faulty : getD ps i noPeer .honest ≡ false → ms ≡ ns → Seated ms ps (i + 1)
   seated-faulty e m = ap (λ (ks : List Node). seats ks ++ seated (drop (i + 1) ps)) m ∙ ap (λ ss. seats ns ++ ss) (sym (seated-next ps i h ∙ cond-false _ _ _ e)) ∙ inv
+
+  -- where one is honest there is somebody to seat
+  pub seated-some : getD ps i noPeer .honest ≡ true → 0 < length (seated ps)
+  seated-some e =
+      let all = ap length (sym inv) in let here = ap length (seated-next ps i h ∙ cond-true _ _ _ e) in omega (arith, length-append (seats ns) (seated (drop i ps)))

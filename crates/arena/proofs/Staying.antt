@@ -8,13 +8,13 @@ use lib.Dec.{eqb, leb, ltb}
 use lib.ListN.{length, getD, take, length-map}
 use native.Mathlib.Omega.{arith}
 use Rattle.arena.specs.Fairness.{Played, FairRounds, after, noSeat, holders, apart, allApart}
-use Rattle.arena.specs.Seats.{Seat, willing, reseated, changeAt, linked, parted, happens, happenTill, turns, roundAt}
+use Rattle.arena.specs.Seats.{Seat, willing, reseated, changeAt, linked, parted, happens, happenTill, begun, beginning}
 use Rattle.rotation.specs.Rows.{nobody}
 use Rattle.script.specs.declared.sheet.Event.{Event}
 use Rattle.script.specs.declared.sheet.LinkEvent.{LinkEvent}
 use Rattle.script.specs.declared.sheet.LinkEvent.the-variants.{Opens, Breaks}
 use Rattle.std.proofs.shelf.Lists.{getD-map, take-all}
-use Rattle.std.proofs.shelf.Tests.{and-from, and-parts, cond-both, or-right, eqb-true, false≢true, not-true}
+use Rattle.std.proofs.shelf.Tests.{and-from, and-parts, cond-both, cond-true, or-right, eqb-true, false≢true, not-true}
 use Rattle.std.proofs.shelf.Ways.{tells}
 use Rattle.swarm.proofs.InRow.{isIn-append}
 use Rattle.swarm.proofs.Rows.{Within, within-changed, first-or-nearer}
@@ -72,15 +72,17 @@ module _ (p q n : ℕ) where
           cond-both (willing (e .a) (e .b) ss && willing (e .b) (e .a) ss) _ ss (StaysAt i) (λ _. both (Joins (e .b) ∷ []) (Joins (e .a) ∷ []) refl refl) (λ _. h)
       by-kind Breaks = both [] [] refl refl
 
-  stays-till : (i t : ℕ) (es : List Event) (ss : List Seat) → apart p q es ≡ true → StaysAt i ss → StaysAt i (happenTill t es ss)
+  stays-till : (i t : ℕ) (es : List Event) (ss : List Seat) → apart p q t es ≡ true → StaysAt i ss → StaysAt i (happenTill t es ss)
   unfolding happenTill apart
   stays-till i t [] ss h k = k
   stays-till i t (e ∷ es) ss h k =
-      let (other, rest) = and-parts (not ((eqb (e .a) p && eqb (e .b) q) || (eqb (e .a) q && eqb (e .b) p))) (apart p q es) h in
-      cond-both (leb (e .at) t) (happenTill t es (happens e ss)) ss (StaysAt i) (λ _. stays-till i t es (happens e ss) rest (stays-happens i e ss other k)) (λ _. k)
+      cond-both (leb (e .at) t) (happenTill t es (happens e ss)) ss (StaysAt i) (λ due. let (other, rest) = here due in stays-till i t es (happens e ss) rest (stays-happens i e ss other k)) (λ _. k)
+    where
+      here : leb (e .at) t ≡ true → Other e × (apart p q t es ≡ true)
+      here due = and-parts (not ((eqb (e .a) p && eqb (e .b) q) || (eqb (e .a) q && eqb (e .b) p))) (apart p q t es) (sym (cond-true _ _ _ due) ∙ h)
 
 -- when a round begins at a peer, q has the turn there or is one place nearer
-turn-or-nearer : (p q n : ℕ) (s : Seat) → Stays p q (suc n) s → (turns s .holder ≡ q ∷ []) ⊎ Stays p q n (turns s)
+turn-or-nearer : (p q n : ℕ) (s : Seat) → Stays p q (suc n) s → (begun s .holder ≡ q ∷ []) ⊎ Stays p q n (begun s)
 turn-or-nearer p q n s (e, h) = ⊎-elim (λ f. inl f) (λ k. inr (e, k)) (first-or-nearer q n (s .row) h)
 
 -- whoever is among the first n has its turn within n rounds
@@ -89,14 +91,14 @@ unfolding holders allApart isIn
 fair-within p q zero i rs ss h k l = absurd (false≢true (h .1 .1))
 fair-within p q (suc n) i [] ss h k l = absurd (omega arith)
 fair-within p q (suc n) i (r ∷ rs) ss h k l =
-    let (here, later) = and-parts (apart p q (r .events)) (allApart p q rs) k in
-    let due = happenTill (r .tick) (r .events) ss in
-    let (inside, stays) = stays-till p q (suc n) i (r .tick) (r .events) ss here h in
-    let now-holds = getD-map turns due i noSeat noSeat inside in
+    let (here, later) = and-parts (apart p q (beginning (r .round)) (r .events)) (allApart p q rs) k in
+    let due = happenTill (beginning (r .round)) (r .events) ss in
+    let (inside, stays) = stays-till p q (suc n) i (beginning (r .round)) (r .events) ss here h in
+    let now-holds = getD-map begun due i noSeat noSeat inside in
     let there = isIn-append q (getD (after r ss) i noSeat .holder) (holders i rs (after r ss)) in
     ⊎-elim
     (λ f. there ∙ ap (λ xs. isIn q xs || isIn q (holders i rs (after r ss))) (ap (λ s. s .holder) now-holds ∙ f) ∙ grind (arith, tells))
-    (λ f. there ∙ or-right _ _ (fair-within p q n i rs (after r ss) (omega (arith, length-map due turns), subst (Stays p q n) (sym now-holds) f) later (omega arith)))
+    (λ f. there ∙ or-right _ _ (fair-within p q n i rs (after r ss) (omega (arith, length-map due begun), subst (Stays p q n) (sym now-holds) f) later (omega arith)))
     (turn-or-nearer p q n (getD due i noSeat) stays)
 
 pub fair-rounds : FairRounds

@@ -1,8 +1,8 @@
 -- What the events of a script make of the rows of its honest peers, round by round. Assumes nothing.
 use mathlib.Core.Bool.{Bool, true, cond, _&&_, _||_, not}
 use mathlib.Core.List.{List, [], _∷_, map}
-use Prim.Native.Nat.{ℕ, suc, _+_}
-use lib.Dec.{eqb, ltb, leb}
+use Prim.Native.Nat.{ℕ, suc, _*_, min}
+use lib.Dec.{eqb, leb}
 use Rattle.arena.specs.declared.node.Node.{Node}
 use Rattle.rotation.specs.Rows.{row, room, nobody}
 use Rattle.script.specs.declared.sheet.Event.{Event}
@@ -63,10 +63,14 @@ unfoldable pub dueTill : ℕ → List Event → ℕ
 dueTill t [] = 0
 dueTill t (e ∷ es) = cond (leb (e .at) t) (suc (dueTill t es)) 0
 
--- a round begins at each: the first of its row has the turn and goes to the end
-abbrev pub turns : Seat → Seat
-turns s = record { id = s .id; row = turned (s .row); holder = first (s .row) }
+-- a round begins at a peer: the first of its row has the turn and goes to the end
+abbrev pub begun : Seat → Seat
+begun s = record { id = s .id; row = turned (s .row); holder = first (s .row) }
 
--- what is due up to the tick at which a round begins, and its beginning
+-- the tick at which a round of 64 ticks begins, as far as 64 bits go
+abbrev pub beginning : ℕ → ℕ
+beginning k = min (k * 64) 18446744073709551615
+
+-- what is due up to the beginning of a round happens, and then it begins at each peer
 abbrev pub roundAt : ℕ → List Event → List Seat → List Seat
-roundAt t es ss = map turns (happenTill t es ss)
+roundAt k es ss = map begun (happenTill (beginning k) es ss)

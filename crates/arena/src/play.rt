@@ -1,13 +1,13 @@
 // The rounds of a script: links come about and break, and at each beginning of a round the first of each rotation has the turn.
-ghost use Prim.Native.Nat.{_≤_};
+ghost use Prim.Native.Nat.{_<_, _≤_};
 ghost use lib.ListN.{length};
-ghost use mathlib.Core.List.{[], _∷_, map};
+ghost use mathlib.Core.List.{map};
 ghost use mathlib.Core.Path.{_≡_};
 ghost use Rattle.arena.specs.Fairness.{FairRounds};
-ghost use Rattle.arena.specs.Seats.{seat, seats, seated, willing, changeAt, linked, parted, happens, happenTill, dueTill, turns, roundAt};
+ghost use Rattle.arena.specs.Seats.{seat, seats, seated, willing, changeAt, linked, parted, happens, happenTill, dueTill, begun, beginning, roundAt};
 ghost use Rattle.rotation.specs.Rows.{meantAll};
 ghost use Rattle.std.specs.Of.Vec.{vec-items};
-ghost use Rattle.std.specs.Vec.{made};
+ghost use Rattle.std.specs.Results.{Cases};
 use crate::node::Node;
 use rotation::Change;
 use rotation::Rotation;
@@ -95,9 +95,9 @@ fn happen_till(nodes: &mut [Node], events: &[Event], tick: u64) -> usize
     events.len()
 }
 
-// A peer whose round begins.
-fn begun(node: Node) -> Node
-    ensures { λ r. ⌜ seat r ≡ turns (seat node) ⌝ }
+// A peer at which a round begins.
+fn begin(node: Node) -> Node
+    ensures { λ r. ⌜ seat r ≡ begun (seat node) ⌝ }
 {
     let (rotation, holder) = node.rotation.turn();
     Node {
@@ -107,30 +107,31 @@ fn begun(node: Node) -> Node
     }
 }
 
-// What is due up to a tick happens, and then a round begins at each peer; the answer is how many events happened.
-pub fn begin_round(nodes: &mut [Node], events: &[Event], tick: u64) -> usize
-    ensures after { λ _. ⌜ seats (now (nodes .exit)) ≡ roundAt tick (now (events .entry)) (seats (now (nodes .entry))) ⌝ }
-    ensures due { λ r. ⌜ r ≡ dueTill tick (now (events .entry)) ⌝ }
+// What is due up to the beginning of a round happens, and then it begins at each peer; the answer is how many events happened.
+pub fn begin_round(nodes: &mut [Node], events: &[Event], round: u64) -> usize
+    ensures after { λ _. ⌜ seats (now (nodes .exit)) ≡ roundAt round (now (events .entry)) (seats (now (nodes .entry))) ⌝ }
+    ensures due { λ r. ⌜ r ≡ dueTill (beginning round) (now (events .entry)) ⌝ }
     ensures bound { λ r. ⌜ r ≤ length (now (events .entry)) ⌝ }
     ensures fair { λ r. ⌜ FairRounds ⌝ }
 {
-    let due = happen_till(nodes, events, tick);
+    let due = happen_till(nodes, events, round.saturating_mul(64));
     for i in 0..nodes.len() {
-        nodes[i] = begun(nodes[i]);
+        nodes[i] = begin(nodes[i]);
     }
     due
 }
 
-// The honest peers of a script, with nobody in their rotations.
+// The honest peers of a script, with nobody in their rotations; there can be no memory for them only if there are such.
 pub fn seat_all(heap: Global, peers: &[Peer]) -> Result<Vec<Node>, AllocError>
-    ensures { λ r. ⌜ made r (λ v. seats (vec-items v) ≡ seated (now (peers .entry))) ⌝ }
+    ensures { λ r. ⌜ Cases r (λ v. seats (vec-items v) ≡ seated (now (peers .entry))) (λ _. 0 < length (seated (now (peers .entry)))) ⌝ }
 {
     let mut nodes = Vec::new(heap);
     for peer in peers {
         if peer.honest {
+            let rotation = Rotation::new();
             nodes.push(Node {
                 id: peer.id,
-                rotation: Rotation::new(),
+                rotation,
                 holder: None,
             })?;
         }

@@ -10,9 +10,6 @@ use std::env;
 use std::error::AnyError;
 use std::fs;
 
-// How many ticks a round has.
-const ROUND_TICKS: u64 = 64;
-
 // A script that was read, with the name that is printed for it.
 #[derive(Drop)]
 struct Named {

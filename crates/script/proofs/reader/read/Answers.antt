@@ -33,9 +33,10 @@ loop-rest-again c =
     let t = sheet (c .in-Continue-script .script) in
     let line = c .next-line .result .0 .now in
     let after = leftLines (c .next-line .result .1) in
-    let first = left-first (c .loop-rest .rest) (c .in-Some .text) line (c .next-line .result .1) (c .in-Some .is) (c .next-line .ensures) in
-    (sym (taken-line n k s line after (c .saturating-add-number .ensures) t (c .in-Continue-script .ensures tt)) ∙ sym (ap (withLines n s) first) ∙ c .loop-rest .inv .0,
-    λ h. c .loop-rest .inv .1 (ap (keptLines n s) first ∙ kept-later n k s line after (c .saturating-add-number .ensures) t (c .in-Continue-script .ensures tt) h))
+    let first = left-first (c .loop-rest .rest) (c .in-Some .text) line (c .next-line .result .1) (c .in-Some .is) (c .next-line .ensures) in (
+      sym (taken-line n k s line after (c .saturating-add-number .ensures) t (c .in-Continue-script .ensures tt)) ∙ sym (ap (withLines n s) first) ∙ c .loop-rest .inv .0,
+      λ h. c .loop-rest .inv .1 (ap (keptLines n s) first ∙ kept-later n k s line after (c .saturating-add-number .ensures) t (c .in-Continue-script .ensures tt) h),
+    )
 
 pub returns : need.returns
 unfolding withLines
