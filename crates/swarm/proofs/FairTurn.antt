@@ -6,10 +6,10 @@ use mathlib.Core.Logic.{⊎-elim}
 use Prim.Native.Nat.{ℕ, zero, suc, _≤_, _<_}
 use native.Mathlib.Omega.{arith}
 use lib.Dec.{eqb}
-use lib.ListN.{length}
+use lib.ListN.{length, take}
 use lib.Seq.{take-length}
 use Rattle.std.proofs.shelf.Ways.{tells}
-use Rattle.std.proofs.shelf.Tests.{false≢true, and-parts, or-left, or-right, eq-eqb}
+use Rattle.std.proofs.shelf.Tests.{false≢true, and-from, and-parts, or-left, or-right, eq-eqb}
 use Rattle.swarm.specs.Turns.{Change, isIn, turned, next, first, turns, longest, noLeave, stays}
 use Rattle.swarm.specs.Levels.{rowAt, TurnAt}
 use Rattle.swarm.specs.Promise.{FairTurn}
@@ -23,12 +23,12 @@ one-later : (q n : ℕ) (row : List ℕ) (cs : List Change) (css : List (List Ch
 unfolding rowAt
 one-later q n row cs css (j, less, is) = (suc j, omega arith, is)
 
-turn-within : (q n : ℕ) (row : List ℕ) (css : List (List Change)) → Within q n row → stays q css ≡ true → n ≤ length css → Turn q n row css
+turn-within : (q n : ℕ) (row : List ℕ) (css : List (List Change)) → Within q n row → stays q (take n css) ≡ true → n ≤ length css → Turn q n row css
 unfolding isIn rowAt stays
 turn-within q zero row css h stay enough = absurd (false≢true h)
 turn-within q (suc n) row [] h stay enough = absurd (omega arith)
 turn-within q (suc n) row (cs ∷ css) h stay enough =
-    let (now, after) = and-parts (noLeave q cs) (stays q css) stay in
+    let (now, after) = and-parts (noLeave q cs) (stays q (take n css)) stay in
     let later = λ (near : Within q n (turned row)). turn-within q n (next cs row) css (within-changed q n cs (turned row) now near) after (omega arith) in
     ⊎-elim (λ is. (zero, omega arith, is)) (λ near. one-later q n row cs css (later near)) (first-or-nearer q n row h)
 
@@ -39,7 +39,7 @@ turn-at q zero row css h stay enough =
     (j, omega arith, omega arith, is)
 turn-at q (suc k) row [] h stay enough = absurd (omega arith)
 turn-at q (suc k) row (cs ∷ css) h stay enough =
-    let (j, from, less, is) = turn-at q k (next cs row) css h (and-parts (noLeave q cs) (stays q css) stay .1) (omega arith) in
+    let (j, from, less, is) = turn-at q k (next cs row) css h stay (omega arith) in
     (suc j, omega arith, omega arith, is)
 
 -- The first of a round is among those who have the turn.
@@ -55,9 +55,15 @@ unfolding longest
 length-longest row [] = omega arith
 length-longest row (cs ∷ css) = grind (arith, tells)
 
+stays-take : (q n : ℕ) (css : List (List Change)) → stays q css ≡ true → stays q (take n css) ≡ true
+unfolding stays
+stays-take q zero css h = refl
+stays-take q (suc n) [] h = refl
+stays-take q (suc n) (cs ∷ css) h = let (now, after) = and-parts (noLeave q cs) (stays q css) h in and-from _ _ now (stays-take q n css after)
+
 pub fair-turn : FairTurn
 unfolding rowAt
 fair-turn d q row css h stay long rounds =
     let enough : length row ≤ length css = omega (arith, length-longest row css) in
-    let (j, from, less, is) = turn-at q 0 row css h stay (omega arith) in
+    let (j, from, less, is) = turn-at q 0 row css h (stays-take q (length row) css stay) (omega arith) in
     in-turns q j row css (omega arith) is

@@ -10,15 +10,11 @@ use Rattle.std.proofs.shelf.Tests.{lt-ltb}
 use Rattle.swarm.specs.Turns.{isIn, turned, noLeave}
 use Rattle.swarm.specs.Swarm.{Rules, size}
 use Rattle.swarm.specs.Code.{Code}
-use Rattle.swarm.specs.Honest.{wants, Seen, Same, Honest, SettledState, starts, disked, asking, good, came, may, asked, served}
+use Rattle.swarm.specs.Honest.{wants, Seen, Same, Honest, SettledAs, SettledState, Over, starts, disked, asking, good, came, may, asked, served}
 use Rattle.swarm.proofs.InRow.{isIn-turned, rowAfter, isIn-kept-new, isIn-kept-stays, isIn-kept-others}
 use Rattle.swarm.proofs.Rounds.{rounded, rounded-stays, rounded-row, rounded-awaited, rounded-held, rounded-settled}
 use Rattle.swarm.proofs.Came.{has-came, has-unwritten, has-elsewhere, holds-came, holds-kept, holds-unwritten, holds-elsewhere}
 use Rattle.swarm.proofs.Came.{awaits-others, awaits-met, awaits-asked, awaits-more, wants-is, wants-may, wants-asked, wants-sent, wants-sent-no-more}
-
--- `Settled` of what is seen
-abbrev SettledAs : Seen → Type 0
-SettledAs s = (s .rotation ≡ turned (s .row)) × ((q : ℕ) (qs : List ℕ) → s .row ≡ q ∷ qs → isIn q (s .lets) ≡ true)
 
 settled-same : (t s : Seen) → Same t s → SettledAs s → SettledAs t
 settled-same t s e f = (e .rotation ∙ f .0 ∙ ap turned (sym (e .row)), λ q qs i. ap (isIn q) (e .lets) ∙ f .1 q qs (sym (e .row) ∙ i))
@@ -54,8 +50,8 @@ module _ {State : Type 0} (r : Rules) (p : ℕ) (h : Honest r p State) where
     serves = λ q m s. wants m (see s .held q);
     sent = λ q m s. settled (h .sent q m (s .0)) (served q m (see s)) (h .sent-so q m (s .0)) (s .1);
     first = λ b. settled (h .first b) (starts r b) (h .first-so b) (starts-settled r b);
-    first-so = λ b. let e = h .first-so b in (e .row, e .shuts, λ m l. e .has m, λ q m. ap (ltb 0) (e .awaited q m));
-    first-brings = λ b. let e = h .first-so b in (e .writes, λ m l i. (e .holds m, e .ways m), λ q m. ap (wants m) (e .held q));
+    first-so = λ b. let e = h .first-so b in (e .row, e .shuts, λ m l. e .has m ∙ ap (λ x. x && isIn m b) (lt-ltb m (size r) l), λ q m. ap (ltb 0) (e .awaited q m));
+    first-brings = λ b. let e = h .first-so b in (e .writes, λ m l i. let here = and-from _ _ (lt-ltb m (size r) l) i in (e .holds m ∙ cond-true _ _ _ here, e .ways m ∙ cond-true _ _ _ here), λ q m. ap (wants m) (e .held q));
     disk-so = λ b s. let e = h .disk-so b (s .0) in (e .writes, λ k. (e .has k, e .holds k, e .ways k), λ k l. (ap (wants l) (e .held k), ap (ltb 0) (e .awaited k l)), e .shuts, e .row);
     writes-stay = λ cs q m x ps s. (rounded-stays r p h cs (s .0) .writes, h .asked-so q m (s .0) .writes, h .comes-so q m x ps (s .0) .writes, h .sent-so q m (s .0) .writes);
     ways-stay = λ cs q m s k. (rounded-stays r p h cs (s .0) .ways k, h .ask-so q m (s .0) .ways k, h .asked-so q m (s .0) .ways k, h .sent-so q m (s .0) .ways k);
@@ -125,4 +121,26 @@ module _ {State : Type 0} (r : Rules) (p : ℕ) (h : Honest r p State) where
         let e = h .comes-so q m x ps (s .0) in
         let v = see s in
         (e .has k ∙ has-elsewhere (v .has) m _ k ne, e .holds k ∙ holds-elsewhere (v .has) m _ x (v .holds) k ne);
+  }
+
+  pub code-over : Over h code-of
+  unfolding code-of rounded
+  code-over = record {
+    has = λ s k. refl;
+    holds = λ s k. refl;
+    ways = λ s k. refl;
+    writes = λ s. refl;
+    shuts = λ s. refl;
+    row = λ s. refl;
+    lets = λ s. refl;
+    awaits = λ s q m. refl;
+    serves = λ s q m. refl;
+    asks = λ s q t. refl;
+    first = λ b. refl;
+    rounds = λ s cs. refl;
+    disk = λ s b. refl;
+    ask = λ s q m. refl;
+    comes = λ s q m x ps. refl;
+    asked-of = λ s q m. refl;
+    sent = λ s q m. refl;
   }

@@ -8,7 +8,7 @@ use Rattle.std.proofs.shelf.Ways.{tells}
 use Rattle.swarm.specs.Turns.{Change, Joins, Leaves, isIn, changed, turned, noLeave}
 use Rattle.swarm.specs.Swarm.{Rules}
 use Rattle.swarm.specs.Code.{taken}
-use Rattle.swarm.specs.Honest.{Seen, Same, Honest, Settled, begun, joined, parted, Nothing}
+use Rattle.swarm.specs.Honest.{Seen, Same, Honest, SettledAs, applied, begun, joined, parted, Nothing}
 use Rattle.swarm.proofs.InRow.{rowAfter}
 use Rattle.swarm.proofs.Taken.{after-more}
 
@@ -26,28 +26,22 @@ rowAfter-same : (cs : List Change) (s t : Seen) → Same s t → rowAfter (s .sh
 rowAfter-same cs s t e = ap₂ (λ shuts row. rowAfter shuts cs row) (e .shuts) (e .rotation)
 
 module _ {State : Type 0} (r : Rules) (p : ℕ) (h : Honest r p State) where
-  -- some come and leave, one after the other
-  applied : List Change → State → State
-  applied [] s = s
-  applied (Joins x ∷ cs) s = applied cs (h .joins x s)
-  applied (Leaves x ∷ cs) s = applied cs (h .leaves x s)
+  -- some come and leave, and then a round begins
+  unfoldable pub rounded : List Change → State → State
+  rounded cs s = h .begins (applied h cs s)
 
-  -- and then a round begins
-  pub rounded : List Change → State → State
-  rounded cs s = h .begins (applied cs s)
-
-  applied-stays : (cs : List Change) (s : State) → Stays (h .see s) (h .see (applied cs s))
+  applied-stays : (cs : List Change) (s : State) → Stays (h .see s) (h .see (applied h cs s))
   unfolding applied
   applied-stays [] s = record { has = λ k. refl; holds = λ k. refl; ways = λ k. refl; writes = refl; shuts = refl }
-  applied-stays (Joins x ∷ cs) s = let t = h .joins x s in stays-then (h .see s) (h .see t) (h .see (applied cs t)) (stays-by (joined x (h .see s)) (h .see t) (h .joins-so x s)) (applied-stays cs t)
-  applied-stays (Leaves x ∷ cs) s = let t = h .leaves x s in stays-then (h .see s) (h .see t) (h .see (applied cs t)) (stays-by (parted x (h .see s)) (h .see t) (h .leaves-so x s)) (applied-stays cs t)
+  applied-stays (Joins x ∷ cs) s = let t = h .joins x s in stays-then (h .see s) (h .see t) (h .see (applied h cs t)) (stays-by (joined x (h .see s)) (h .see t) (h .joins-so x s)) (applied-stays cs t)
+  applied-stays (Leaves x ∷ cs) s = let t = h .leaves x s in stays-then (h .see s) (h .see t) (h .see (applied h cs t)) (stays-by (parted x (h .see s)) (h .see t) (h .leaves-so x s)) (applied-stays cs t)
 
   pub rounded-stays : (cs : List Change) (s : State) → Stays (h .see s) (h .see (rounded cs s))
   unfolding rounded
-  rounded-stays cs s = let t = applied cs s in let u = h .begins t in
+  rounded-stays cs s = let t = applied h cs s in let u = h .begins t in
       stays-then (h .see s) (h .see t) (h .see u) (applied-stays cs s) (stays-by (begun (h .see u .lets) (h .see t)) (h .see u) (h .begins-so t))
 
-  applied-rotation : (cs : List Change) (s : State) → h .see (applied cs s) .rotation ≡ rowAfter (h .see s .shuts) cs (h .see s .rotation)
+  applied-rotation : (cs : List Change) (s : State) → h .see (applied h cs s) .rotation ≡ rowAfter (h .see s .shuts) cs (h .see s .rotation)
   unfolding applied changed taken
   applied-rotation [] s = refl
   applied-rotation (Joins x ∷ cs) s = let t = h .joins x s in
@@ -55,7 +49,7 @@ module _ {State : Type 0} (r : Rules) (p : ℕ) (h : Honest r p State) where
   applied-rotation (Leaves x ∷ cs) s = let t = h .leaves x s in applied-rotation cs t ∙ rowAfter-same cs (h .see t) (parted x (h .see s)) (h .leaves-so x s)
 
   -- what was asked for on a link that ended is awaited no more
-  applied-awaited : (cs : List Change) (s : State) (k l : ℕ) → h .see (applied cs s) .awaited k l ≡ cond (noLeave k cs) (h .see s .awaited k l) 0
+  applied-awaited : (cs : List Change) (s : State) (k l : ℕ) → h .see (applied h cs s) .awaited k l ≡ cond (noLeave k cs) (h .see s .awaited k l) 0
   unfolding applied noLeave
   applied-awaited [] s k l = refl
   applied-awaited (Joins x ∷ cs) s k l = let i = applied-awaited cs (h .joins x s) k l in let e = h .joins-so x s .awaited k l in rw e at i
@@ -63,17 +57,17 @@ module _ {State : Type 0} (r : Rules) (p : ℕ) (h : Honest r p State) where
 
   pub rounded-row : (cs : List Change) (s : State) → h .see (rounded cs s) .row ≡ rowAfter (h .see s .shuts) cs (h .see s .rotation)
   unfolding rounded
-  rounded-row cs s = h .begins-so (applied cs s) .row ∙ applied-rotation cs s
+  rounded-row cs s = h .begins-so (applied h cs s) .row ∙ applied-rotation cs s
 
   pub rounded-awaited : (cs : List Change) (s : State) (k l : ℕ) → h .see (rounded cs s) .awaited k l ≡ cond (noLeave k cs) (h .see s .awaited k l) 0
   unfolding rounded
-  rounded-awaited cs s k l = h .begins-so (applied cs s) .awaited k l ∙ applied-awaited cs s k l
+  rounded-awaited cs s k l = h .begins-so (applied h cs s) .awaited k l ∙ applied-awaited cs s k l
 
   pub rounded-held : (cs : List Change) (s : State) (k : ℕ) → h .see (rounded cs s) .held k ≡ Nothing
   unfolding rounded
-  rounded-held cs s k = h .begins-so (applied cs s) .held k
+  rounded-held cs s k = h .begins-so (applied h cs s) .held k
 
   -- nobody came or left since the round began
-  pub rounded-settled : (cs : List Change) (s : State) → Settled h (rounded cs s)
+  pub rounded-settled : (cs : List Change) (s : State) → SettledAs (h .see (rounded cs s))
   unfolding rounded
-  rounded-settled cs s = let t = applied cs s in (h .begins-so t .rotation ∙ ap turned (sym (h .begins-so t .row)), λ q qs e. h .begins-lets t .turn-in q qs (sym (h .begins-so t .row) ∙ e))
+  rounded-settled cs s = let t = applied h cs s in (h .begins-so t .rotation ∙ ap turned (sym (h .begins-so t .row)), λ q qs e. h .begins-lets t .turn-in q qs (sym (h .begins-so t .row) ∙ e))

@@ -49,9 +49,17 @@ pub record Same (s t : Seen) : Type 0 where
   pub awaited : (q m : ℕ) → s .awaited q m ≡ t .awaited q m
   pub held : (q : ℕ) → s .held q ≡ t .held q
 
+-- what it brings: those of these places that the file has
+abbrev pub brings : Rules → List ℕ → ℕ → Bool
+brings r h m = ltb m (size r) && isIn m h
+
 -- it starts with what it brings, which is the file's, and with nobody
 abbrev pub starts : Rules → List ℕ → Seen
-starts r h = record { has = λ m. isIn m h; holds = λ m. getD (r .file) m 0; ways = λ m. way m (r .file); writes = true; shuts = []; row = []; rotation = []; lets = []; awaited = λ q m. 0; held = λ q. Nothing }
+starts r h = record {
+    has = brings r h;
+    holds = λ m. cond (brings r h m) (getD (r .file) m 0) 0;
+    ways = λ m. cond (brings r h m) (way m (r .file)) [];
+    writes = true; shuts = []; row = []; rotation = []; lets = []; awaited = λ q m. 0; held = λ q. Nothing }
 
 -- a round begins: the row turns, others are let ask, and the asks that were not met lapse
 abbrev pub begun : List ℕ → Seen → Seen
@@ -87,7 +95,7 @@ good r q m x ps s = ltb 0 (s .awaited q m) && fits r m x ps
 abbrev pub written : Rules → (from place what : ℕ) → List Dig → Seen → Bool
 written r q m x ps s = good r q m x ps s && (not (isIn q (s .shuts)) && s .writes)
 
--- a piece comes: it is kept where it lacked, its sender is shut out where it isn't good, and one ask is met
+-- a piece comes on a link: it is kept where it lacked, its sender is shut out where it isn't good, and one ask is met; that the link of one who is shut out ends is the next step
 abbrev pub came : Rules → (from place what : ℕ) → List Dig → Seen → Seen
 came r q m x ps s = record {
   has = λ k. s .has k || (eqb k m && written r q m x ps s);
@@ -153,16 +161,43 @@ pub record Honest (r : Rules) (p : ℕ) (State : Type 0) : Type 0 where
 abbrev pub Plain : Rules → Type 0
 Plain r = (s : Seen) × Fine r s
 
--- nobody came or left since the round began: `Code` has these states only, since its changes come with a round's end
-abbrev pub Settled : {r : Rules} {p : ℕ} {State : Type 0} → Honest r p State → State → Type 0
-Settled h s = (h .see s .rotation ≡ turned (h .see s .row)) × ((q : ℕ) (qs : List ℕ) → h .see s .row ≡ q ∷ qs → isIn q (h .see s .lets) ≡ true)
+-- what it is seen as while nobody came or left since the round began
+abbrev pub SettledAs : Seen → Type 0
+SettledAs s = (s .rotation ≡ turned (s .row)) × ((q : ℕ) (qs : List ℕ) → s .row ≡ q ∷ qs → isIn q (s .lets) ≡ true)
 
+-- `Code` has these states only, since its changes come with a round's end
 abbrev pub SettledState : {r : Rules} {p : ℕ} {State : Type 0} → Honest r p State → Type 0
-SettledState {State = State} h = (s : State) × Settled h s
+SettledState {State = State} h = (s : State) × SettledAs (h .see s)
 
--- A peer that keeps to the rules step by step does what the code of a peer must do, with states of any type.
+-- links come about and end, one after the other
+unfoldable pub applied : {r : Rules} {p : ℕ} {State : Type 0} → Honest r p State → List Change → State → State
+applied h [] s = s
+applied h (Joins x ∷ cs) s = applied h cs (h .joins x s)
+applied h (Leaves x ∷ cs) s = applied h cs (h .leaves x s)
+
+-- code that shows and does what the peer shows and does
+pub record Over {r : Rules} {p : ℕ} {State : Type 0} (h : Honest r p State) (c : Code r p (SettledState h)) : Type 0 where
+  pub has : (s : SettledState h) (k : ℕ) → c .has s k ≡ h .see (s .0) .has k
+  pub holds : (s : SettledState h) (k : ℕ) → c .holds s k ≡ h .see (s .0) .holds k
+  pub ways : (s : SettledState h) (k : ℕ) → c .ways s k ≡ h .see (s .0) .ways k
+  pub writes : (s : SettledState h) → c .writes s ≡ h .see (s .0) .writes
+  pub shuts : (s : SettledState h) → c .shuts s ≡ h .see (s .0) .shuts
+  pub row : (s : SettledState h) → c .row s ≡ h .see (s .0) .row
+  pub lets : (s : SettledState h) → c .lets s ≡ h .see (s .0) .lets
+  pub awaits : (s : SettledState h) (q m : ℕ) → c .awaits q m s ≡ ltb 0 (h .see (s .0) .awaited q m)
+  pub serves : (s : SettledState h) (q m : ℕ) → c .serves q m s ≡ wants m (h .see (s .0) .held q)
+  pub asks : (s : SettledState h) (q : ℕ) (t : ℕ → Bool) → c .asks q t s ≡ h .asks q t (s .0)
+  pub first : (b : List ℕ) → c .first b .0 ≡ h .first b
+  pub rounds : (s : SettledState h) (cs : List Change) → c .rounds cs s .0 ≡ h .begins (applied h cs (s .0))
+  pub disk : (s : SettledState h) (b : Bool) → c .disk b s .0 ≡ h .disk b (s .0)
+  pub ask : (s : SettledState h) (q m : ℕ) → c .ask q m s .0 ≡ h .ask q m (s .0)
+  pub comes : (s : SettledState h) (q m x : ℕ) (ps : List Dig) → c .comes q m x ps s .0 ≡ h .comes q m x ps (s .0)
+  pub asked-of : (s : SettledState h) (q m : ℕ) → c .asked-of q m s .0 ≡ h .asked-of q m (s .0)
+  pub sent : (s : SettledState h) (q m : ℕ) → c .sent q m s .0 ≡ h .sent q m (s .0)
+
+-- A peer that keeps to the rules step by step, with states of any type, does what the code of a peer must do.
 abbrev pub HonestIsCode : Type 0 → Type 0
-HonestIsCode State = (r : Rules) (p : ℕ) (h : Honest r p State) → Code r p (SettledState h)
+HonestIsCode State = (r : Rules) (p : ℕ) (h : Honest r p State) → (c : Code r p (SettledState h)) × Over h c
 
 -- There are such peers.
 abbrev pub HonestIsMet : Type 0

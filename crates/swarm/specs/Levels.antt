@@ -3,7 +3,7 @@ use mathlib.Core.Path.{_≡_}
 use mathlib.Core.Bool.{Bool, true, false}
 use mathlib.Core.List.{List, [], _∷_, List·Memᴰ}
 use Prim.Native.Nat.{_-_, ℕ, zero, suc, _+_, _*_, _<_, _≤_}
-use lib.ListN.{length}
+use lib.ListN.{length, take, drop}
 use Rattle.swarm.specs.Tree.{Dig, Leaf, top, way, leads, Is}
 use Rattle.swarm.specs.Turns.{Change, isIn, stays, next, first}
 use Rattle.swarm.specs.Swarm.{Rules, size, Rounds}
@@ -19,10 +19,10 @@ rowAt zero row css = row
 rowAt (suc k) row [] = row
 rowAt (suc k) row (cs ∷ css) = rowAt k (next cs row) css
 
--- Whoever is in the row as round k finds it, and stays, is its first at some round from k on, before as many rounds are over as that row is long.
+-- Whoever is in the row as round k finds it is its first at some round from k on, before as many rounds are over as that row is long, if it stays for these.
 abbrev pub TurnAt : Type 0
 TurnAt =
-    (q k : ℕ) (row : List ℕ) (css : List (List Change)) → isIn q (rowAt k row css) ≡ true → stays q css ≡ true → k + length (rowAt k row css) ≤ length css →
+    (q k : ℕ) (row : List ℕ) (css : List (List Change)) → isIn q (rowAt k row css) ≡ true → stays q (take (length (rowAt k row css)) (drop k css)) ≡ true → k + length (rowAt k row css) ≤ length css →
     (j : ℕ) × (k ≤ j) × (j < k + length (rowAt k row css)) × (first (rowAt j row css) ≡ q ∷ [])
 
 -- in k rounds each true friend of a true peer has its turn in every d of them, and true peers hang together

@@ -7,5 +7,5 @@ use Rattle.swarm.proofs.bound.least_rounds_enough.Needs as need
 
 pub returns : need.returns
 returns c =
-    let e : c .from-3 .result * c .saturating-sub .result ≡ c .args .longest * (c .args .peers * c .args .pieces - c .args .pieces) = cc in
-    record { value = e; enough = enough-within (c .args .longest) (c .args .peers) (c .args .pieces) _ e; promise = all-done-within }
+    let e : c .from-3 .result * c .saturating-sub .result ≡ c .args .window * (c .args .peers * c .args .pieces - c .args .pieces) = cc in
+    record { value = e; enough = enough-within (c .args .window) (c .args .peers) (c .args .pieces) _ e; promise = all-done-within }

@@ -7,5 +7,5 @@ use Rattle.swarm.proofs.bound.rounds_enough.Needs as need
 
 pub returns : need.returns
 returns c =
-    let e : c .from .result * (c .from-2 .result * c .from-3 .result) ≡ c .args .longest * (c .args .peers * c .args .pieces) = cc in
-    record { value = e; enough = enough (c .args .longest) (c .args .peers) (c .args .pieces) _ e; promise = main }
+    let e : c .from .result * (c .from-2 .result * c .from-3 .result) ≡ c .args .window * (c .args .peers * c .args .pieces) = cc in
+    record { value = e; enough = enough (c .args .window) (c .args .peers) (c .args .pieces) _ e; promise = main }
