@@ -8,17 +8,14 @@ use lib.ListN.{length, getD, drop, length-append}
 use native.Mathlib.Omega.{arith}
 use Rattle.arena.specs.Seats.{Seat, seat, seats, happens, happenTill, dueTill, seated}
 use Rattle.arena.specs.declared.node.Node.{Node}
+use Rattle.script.proofs.Standing.{noEvent}
 use Rattle.script.specs.declared.sheet.Event.{Event}
-use Rattle.script.specs.declared.sheet.LinkEvent.the-variants.{Opens}
 use Rattle.script.specs.declared.sheet.Peer.{Peer}
 use Rattle.std.proofs.shelf.Lists.{at-drop-more, at-drop-all, map-append}
 use Rattle.std.proofs.shelf.Tests.{cond-true, cond-false, le-leb, lt-leb}
 use Rattle.std.proofs.shelf.Ways.{tells}
 
 -- what the code reads past the end
-abbrev pub noEvent : Event
-noEvent = record { at = 0; a = 0; b = 0; what = Opens 0; line = 0 }
-
 abbrev pub noPeer : Peer
 noPeer = record { id = 0; honest = false }
 

@@ -1,4 +1,4 @@
--- Whether the rest of the peers takes a link, one peer after the other.
+-- All peers take a link just if each of them does, one after the other.
 use mathlib.Core.Bool.{true, _&&_, _||_, not}
 use mathlib.Core.List.{List}
 use mathlib.Core.Path.{_≡_, ap, sym, _∙_}

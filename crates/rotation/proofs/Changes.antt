@@ -5,9 +5,9 @@ use mathlib.Core.List.{List, [], _∷_, _++_}
 use Prim.Native.Nat.{ℕ}
 use lib.Dec.{ltb}
 use lib.ListN.{length}
-use native.Mathlib.Omega.{arith}
-use Rattle.rotation.proofs.InRow.{join-there, or-false, or-true}
+use Rattle.rotation.proofs.InRow.{join-there, or-false}
 use Rattle.rotation.specs.Rows.{nobody}
+use Rattle.std.proofs.shelf.Tests.{or-right, true≢false}
 use Rattle.swarm.proofs.Taken.{after}
 use Rattle.swarm.specs.Code.{taken}
 use Rattle.swarm.specs.Turns.{Joins, Leaves, isIn, changed, without}
@@ -25,7 +25,7 @@ unfolding taken changed
 join-refused q row h = by-room (ltb (length row) 64) h
   where
     by-room : (room : Bool) → (isIn q row || room) ≡ false → row ≡ changed (cond (not room) [] (Joins q ∷ [])) row
-    by-room true e = absurd (let z : _≡_ {A = ℕ} 0 1 = (let f = sym (or-true (isIn q row)) ∙ e in cc) in omega arith)
+    by-room true e = absurd (true≢false (sym (or-right (isIn q row) true refl) ∙ e))
     by-room false e = refl
 
 pub leave-taken : (q : ℕ) (row : List ℕ) → without q row ≡ after nobody (Leaves q ∷ []) row

@@ -1,4 +1,4 @@
--- Who is in the first places of a list, one place more at a time.
+-- What a rotation does to its array is what happens to the row that the array stands for.
 use mathlib.Core.Path.{_≡_, refl, ap, sym, _∙_}
 use mathlib.Core.Bool.{Bool, true, false, cond, not, _||_}
 use mathlib.Core.List.{List, [], _∷_, _++_}
@@ -7,6 +7,7 @@ use native.Mathlib.Omega.{arith}
 use lib.Dec.{eqb}
 use lib.ListN.{length, getD, take, drop, length-take, length-drop, length-append}
 use Rattle.std.proofs.shelf.Lists.{take-more, take-at}
+use Rattle.std.proofs.shelf.Tests.{or-right}
 use Rattle.std.proofs.shelf.Ways.{tells}
 use Rattle.std.specs.shelf.Lists.{kept-by}
 use Rattle.swarm.proofs.InRow.{isIn-append}
@@ -15,10 +16,6 @@ use Rattle.swarm.specs.Turns.{Joins, first, isIn, changed, turned, without}
 pub or-false : (b : Bool) → (b || false) ≡ b
 or-false true = refl
 or-false false = refl
-
-pub or-true : (b : Bool) → (b || true) ≡ true
-or-true true = refl
-or-true false = refl
 
 pub isIn-more : (q : ℕ) (xs : List ℕ) (i : ℕ) → i < length xs → isIn q (take (i + 1) xs) ≡ (isIn q (take i xs) || eqb (getD xs i 0) q)
 unfolding isIn
@@ -30,7 +27,7 @@ unfolding isIn
 isIn-at q xs i zero h l e = absurd (omega arith)
 isIn-at q [] i (suc n) h l e = absurd (omega arith)
 isIn-at q (x ∷ xs) zero (suc n) h l e = grind (arith, tells)
-isIn-at q (x ∷ xs) (suc i) (suc n) h l e = ap (λ b. eqb x q || b) (isIn-at q xs i n (omega arith) (omega arith) e) ∙ or-true (eqb x q)
+isIn-at q (x ∷ xs) (suc i) (suc n) h l e = ap (λ b. eqb x q || b) (isIn-at q xs i n (omega arith) (omega arith) e) ∙ or-right (eqb x q) true refl
 
 -- the first goes to the end
 pub turned-parts : (xs : List ℕ) → drop 1 xs ++ take 1 xs ≡ turned xs

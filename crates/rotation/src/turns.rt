@@ -5,6 +5,7 @@ ghost use Rattle.rotation.specs.Rows.{row, room, meant, meantAll, nobody, Fair
 ghost use Rattle.std.specs.Results.{Cases, isOk};
 ghost use Rattle.std.specs.Vec.{listOf};
 ghost use Rattle.swarm.specs.Code.{taken};
+ghost use Rattle.swarm.specs.Faults.{number};
 ghost use Rattle.swarm.specs.Levels.{TurnAt};
 ghost use Rattle.swarm.specs.Turns as Turns;
 ghost use Rattle.swarm.specs.Turns.{Joins, isIn, without, changed, turned, first, next};
@@ -45,7 +46,7 @@ impl Rotation {
     // With `id` at the end, or as it is where `id` is there; a 65th is refused.
     pub fn join(self, id: u64) -> Result<Rotation, Fault>
         ensures taken { λ r. ⌜ isOk r ≡ room id (row self) ⌝ }
-        ensures after { λ r. ⌜ Cases r (λ s. row s ≡ changed (Joins id ∷ []) (row self)) (λ e. e ≡ Fault.TooMany) ⌝ }
+        ensures after { λ r. ⌜ Cases r (λ s. row s ≡ changed (Joins id ∷ []) (row self)) (λ e. (e ≡ Fault.TooMany) × (number e ≡ 8)) ⌝ }
     {
         if self.has(id) {
             return Ok(self);

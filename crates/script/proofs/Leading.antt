@@ -1,4 +1,4 @@
--- How many bytes in front pass a test, looked at one by one.
+-- A search that stops at the first byte that fails a test has passed as many as pass it in front.
 use mathlib.Core.Path.{_≡_}
 use mathlib.Core.Bool.{Bool, true, false}
 use mathlib.Core.List.{List}

@@ -1,4 +1,4 @@
--- The number that digits write, read one digit at a time.
+-- Digits that are read one at a time give the number that all of them write.
 use mathlib.Core.Path.{_≡_, _∙_}
 use mathlib.Core.Bool.{true, false}
 use mathlib.Core.List.{List, [], _∷_}

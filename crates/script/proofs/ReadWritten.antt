@@ -9,7 +9,7 @@ use lib.Chars.{codes}
 use Rattle.script.proofs.NumeralExact.{is-written}
 use Rattle.script.proofs.SameWord.{is-decides}
 use Rattle.script.specs.Laws.{inRange, Spells, ReadWritten}
-use Rattle.script.specs.Statements.{Read, is, number, most, keyword, ended, pair, delay, later, statement}
+use Rattle.script.specs.Statements.{Read, is, number, most, keyword, ended, pair, delay, later, statement, mostRounds}
 use Rattle.script.specs.Words.{numeral}
 use Rattle.script.specs.declared.statement.Expected.{Expected}
 use Rattle.script.specs.declared.statement.Expected.the-variants as Expected
@@ -128,4 +128,4 @@ read-written (w ∷ ws) s h =
     (by-word w ws s (codes "false") _ _ (as-last w ws s (codes "false") 1 most Expected.PeerNumber (λ n. Statement.False n) (λ n r. (r, inl refl)))
     (by-word w ws s (codes "link") _ _ (as-link w ws s)
     (by-word w ws s (codes "break") _ _ (as-break w ws s)
-    (by-word w ws s (codes "rounds") _ _ (as-last w ws s (codes "rounds") 0 4294967295 Expected.Count (λ n. Statement.Rounds n) (λ n r. (r, inl refl))) (as-none w ws s))))) h
+    (by-word w ws s (codes "rounds") _ _ (as-last w ws s (codes "rounds") 0 mostRounds Expected.Count (λ n. Statement.Rounds n) (λ n r. (r, inl refl))) (as-none w ws s))))) h

@@ -1,4 +1,4 @@
--- Whether a link stands, and which break is the first bad one, one event after the other.
+-- Events that are looked at one after the other tell whether a link stands, and which break is the first bad one.
 use mathlib.Core.Path.{_≡_, refl, ap, ap₂, sym, _∙_}
 use mathlib.Core.Bool.{Bool, true, false, cond, _||_}
 use mathlib.Core.List.{List, [], _∷_, _++_}

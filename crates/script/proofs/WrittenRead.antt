@@ -8,7 +8,7 @@ use lib.Chars.{codes}
 use lib.Dec.{eqb, leb}
 use Rattle.script.proofs.NumeralExact.{numeral-decimal}
 use Rattle.script.specs.Laws.{inRange, proper, written, short, WrittenRead}
-use Rattle.script.specs.Statements.{Read, is, most, number, ended, pair, delay, statement}
+use Rattle.script.specs.Statements.{Read, is, most, number, ended, pair, delay, statement, mostRounds}
 use Rattle.script.specs.Words.{numeral}
 use Rattle.script.specs.declared.statement.Expected.{Expected}
 use Rattle.script.specs.declared.statement.Expected.the-variants as Expected
@@ -60,4 +60,4 @@ written-read (Break a b t) p =
     let pb = and-parts _ _ (pa .1) in
     let read = pair-back a b t [] (λ a b t ws. ended (Break a b t) ws) (pa .0) (pb .0) (pb .1) in
     (read, read)
-written-read (Rounds n) p = let read = last-back 0 4294967295 n Expected.Count (λ n. Rounds n) refl p in (read, read)
+written-read (Rounds n) p = let read = last-back 0 mostRounds n Expected.Count (λ n. Rounds n) refl p in (read, read)

@@ -6,7 +6,7 @@ use mathlib.Core.Path.{_≡_}
 use Prim.Native.Nat.{ℕ, _^_, _<_}
 use lib.Chars.{codes}
 use lib.Dec.{eqb, leb}
-use Rattle.script.specs.Statements.{most, statement}
+use Rattle.script.specs.Statements.{most, mostRounds, statement}
 use Rattle.script.specs.Words.{numeral}
 use Rattle.script.specs.declared.statement.Statement.{Statement}
 use Rattle.script.specs.declared.statement.Statement.the-variants.{Peer, False, Link, Break, Rounds}
@@ -43,7 +43,7 @@ proper (Peer n) = inRange 1 most n
 proper (False n) = inRange 1 most n
 proper (Link a b t d) = inRange 1 most a && (inRange 1 most b && (inRange 0 most t && inRange 1 8 d))
 proper (Break a b t) = inRange 1 most a && (inRange 1 most b && inRange 0 most t)
-proper (Rounds n) = inRange 0 4294967295 n
+proper (Rounds n) = inRange 0 mostRounds n
 
 -- what is written of a statement is read as that statement
 abbrev pub WrittenRead : Type 0

@@ -29,6 +29,10 @@ abbrev pub number : (low high : ℕ) → Expected → List (List ℕ) → (ℕ �
 number low high e [] next = Err e
 number low high e (w ∷ ws) next = elim (numeral w) [ Some n ↦ cond (leb low n && leb n high) (next n ws) (Err e) | None ↦ Err e ]
 
+-- the most rounds that a script may ask for
+abbrev pub mostRounds : ℕ
+mostRounds = 4294967295
+
 -- the most that 64 bits hold
 abbrev pub most : ℕ
 most = 18446744073709551615
@@ -65,5 +69,5 @@ statement (w ∷ ws) =
     (cond (is w (codes "false")) (number 1 most Expected.PeerNumber ws (λ n ws. ended (Statement.False n) ws))
     (cond (is w (codes "link")) (pair ws (λ a b t ws. delay ws (λ d ws. ended (Statement.Link a b t d) ws)))
     (cond (is w (codes "break")) (pair ws (λ a b t ws. ended (Statement.Break a b t) ws))
-    (cond (is w (codes "rounds")) (number 0 4294967295 Expected.Count ws (λ n ws. ended (Statement.Rounds n) ws))
+    (cond (is w (codes "rounds")) (number 0 mostRounds Expected.Count ws (λ n ws. ended (Statement.Rounds n) ws))
     (cond (later w) (Err Expected.Played) (Err Expected.Statement))))))

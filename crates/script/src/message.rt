@@ -22,7 +22,7 @@ fn text(expected: Expected) -> &'static str {
     match expected {
         Expected::Statement => "a statement: peer, false, link, break or rounds",
         Expected::Played =>
-            "a statement that is played already: peer, false, link, break or rounds",
+            "one of the statements that are played so far: peer, false, link, break or rounds",
         Expected::PeerNumber => "a peer's number, from 1",
         Expected::NewPeer => "a peer that no line above declares",
         Expected::KnownPeer => "peers that lines above declare",

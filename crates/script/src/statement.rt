@@ -1,7 +1,7 @@
 // The statements of a script, one a line.
 ghost use mathlib.Core.Path.{_≡_};
 ghost use Rattle.script.specs.Laws.{NumeralExact, WrittenRead, ReadWritten};
-ghost use Rattle.script.specs.Statements.{number, most, ended, pair, delay, later, statement};
+ghost use Rattle.script.specs.Statements.{mostRounds, number, most, ended, pair, delay, later, statement};
 ghost use Rattle.script.specs.Words.{words};
 use crate::parts::Pair;
 use crate::parts::same;
@@ -95,7 +95,7 @@ fn break_link(line: &[u8]) -> Result<Statement, Expected>
 
 // How many rounds are played.
 fn rounds(line: &[u8]) -> Result<Statement, Expected>
-    ensures { λ r. ⌜ r ≡ number 0 4294967295 Expected.Count (words (now (line .entry))) (λ n ws. ended (Statement.Rounds n) ws) ⌝ }
+    ensures { λ r. ⌜ r ≡ number 0 mostRounds Expected.Count (words (now (line .entry))) (λ n ws. ended (Statement.Rounds n) ws) ⌝ }
 {
     Ok(Statement::Rounds(take_last(line, 0, 4294967295, Expected::Count)?))
 }

@@ -1,4 +1,4 @@
--- What is there, awaited and to be served after a piece came, was asked for or was sent.
+-- After a piece came, was asked for or was sent, just that piece is there, awaited and to be served which the step says.
 use mathlib.Core.Path.{_≡_}
 use mathlib.Core.Bool.{Bool, true, false, cond, _&&_, _||_, not}
 use Prim.Native.Nat.{ℕ, pred, _+_, _<_}

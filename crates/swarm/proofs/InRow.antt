@@ -1,4 +1,4 @@
--- Who is in a row that is joined to another, turned, cut, or left; and how long such a row is.
+-- Whoever is in a row is in it when it is turned and when others join, and is not when it leaves; and so a row keeps to its length.
 use mathlib.Core.Path.{_≡_, refl}
 use mathlib.Core.Bool.{Bool, true, false, cond, _&&_, _||_, not}
 use mathlib.Core.List.{List, [], _∷_, _++_}

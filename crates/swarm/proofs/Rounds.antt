@@ -1,4 +1,4 @@
--- What a peer is after some have come and left in a round and the next has begun.
+-- When some have come and left in a round and the next has begun, only the row, the asks and what is awaited of those who left are others.
 use mathlib.Core.Path.{_≡_, refl, sym, ap, ap₂, _∙_}
 use mathlib.Core.Bool.{cond}
 use mathlib.Core.List.{List, [], _∷_}
