@@ -6,7 +6,7 @@ use Prim.Native.Nat.{ℕ, suc, _<_}
 use denote.Ref.{RefT}
 use lib.ListN.{length}
 use native.Mathlib.Omega.{arith}
-use Rattle.script.specs.Sheets.{Sheet, Reads, sheet, nextLine, numbered, withWords, withLines, keptLine, keptLines}
+use Rattle.script.specs.Sheets.{Sheet, Reads, sheet, whole, nextLine, numbered, withWords, withLines, keptLine, keptLines}
 use Rattle.script.specs.Words.{words, lines}
 use Rattle.script.specs.declared.sheet.BadLine.{BadLine}
 use Rattle.script.specs.declared.sheet.ReadFault.{ReadFault}
@@ -74,14 +74,14 @@ module _ (n k : ℕ) (s : Sheet) (l : List ℕ) (ls : List (List ℕ)) (next : k
   kept-later t e h = kept-first ∙ or-right _ _ (ap (keep-on k ls) e ∙ h)
 
   -- a refusal is handed on as it is
-  pub handed-fault : (f : ReadFault) (r : Result Script ReadFault) → Reads (keptLine k s (words l) ≡ true) (numbered k (withWords k s (words l))) (Err f) → ErrBy r (λ g. g ≡ f) →
-      Reads (keptLines n s (l ∷ ls) ≡ true) (withLines n s (l ∷ ls)) r
+  pub handed-fault : (f : ReadFault) (r : Result Script ReadFault) → Reads sheet (keptLine k s (words l) ≡ true) (numbered k (withWords k s (words l))) (Err f) → ErrBy r (λ g. g ≡ f) →
+      Reads whole (keptLines n s (l ∷ ls) ≡ true) (withLines n s (l ∷ ls)) r
   handed-fault f (Ok x) h e = absurd e
-  handed-fault (Line b) (Err g) h e = subst (λ (g : ReadFault). Reads (keptLines n s (l ∷ ls) ≡ true) (withLines n s (l ∷ ls)) (Err g)) (sym e) (refused-line b h)
-  handed-fault OutOfMemory (Err g) h e = subst (λ (g : ReadFault). Reads (keptLines n s (l ∷ ls) ≡ true) (withLines n s (l ∷ ls)) (Err g)) (sym e) (kept-first ∙ or-left _ _ h)
+  handed-fault (Line b) (Err g) h e = subst (λ (g : ReadFault). Reads whole (keptLines n s (l ∷ ls) ≡ true) (withLines n s (l ∷ ls)) (Err g)) (sym e) (refused-line b h)
+  handed-fault OutOfMemory (Err g) h e = subst (λ (g : ReadFault). Reads whole (keptLines n s (l ∷ ls) ≡ true) (withLines n s (l ∷ ls)) (Err g)) (sym e) (kept-first ∙ or-left _ _ h)
 
 -- an answer to the rest is one to the whole
-pub reads-whole : {wants wants′ : Type 0} {said said′ : Result Sheet BadLine} (r : Result Script ReadFault) → (wants → wants′) → said ≡ said′ → Reads wants said r → Reads wants′ said′ r
+pub reads-whole : {wants wants′ : Type 0} {said said′ : Result Sheet BadLine} (r : Result Script ReadFault) → (wants → wants′) → said ≡ said′ → Reads whole wants said r → Reads whole wants′ said′ r
 reads-whole (Ok s) f e h = sym e ∙ h
 reads-whole (Err (Line b)) f e h = sym e ∙ h
 reads-whole (Err OutOfMemory) f e h = f h

@@ -8,6 +8,7 @@ use lib.ListN.{length}
 use Rattle.script.specs.Statements.{statement, most}
 use Rattle.script.specs.Words.{words, lines}
 use Rattle.script.specs.declared.sheet.BadLine.{BadLine}
+use Rattle.script.specs.declared.sheet.Draft.{Draft}
 use Rattle.script.specs.declared.sheet.Event.{Event}
 use Rattle.script.specs.declared.sheet.LinkEvent.{LinkEvent}
 use Rattle.script.specs.declared.sheet.LinkEvent.the-variants.{Opens, Breaks}
@@ -38,9 +39,12 @@ pub record Sheet : Type 0 where
 abbrev pub blankSheet : Sheet
 blankSheet = record { peers = []; events = []; rounds = None }
 
--- what a script's fields stand for
-abbrev pub sheet : Script → Sheet
+-- what a draft and a script stand for
+abbrev pub sheet : Draft → Sheet
 sheet s = record { peers = vec-items (s .peers); events = vec-items (s .events); rounds = s .rounds }
+
+abbrev pub whole : Script → Sheet
+whole s = record { peers = vec-items (s .peers); events = vec-items (s .events); rounds = Some (s .rounds) }
 
 -- is a peer of that number there
 unfoldable pub known : ℕ → List Peer → Bool
@@ -80,7 +84,7 @@ abbrev pub more : ℕ → Sheet → Statement → Result Sheet Expected
 more line s st = elim (s .rounds) [ None ↦ withStatement line st s | Some n ↦ Err Expected.Nothing ]
 
 -- an answer is the sheet's; or there was no memory, which can be only where this is so
-abbrev pub Answers : Type 0 → Result Sheet Expected → Result Script Refusal → Type 0
+abbrev pub Answers : Type 0 → Result Sheet Expected → Result Draft Refusal → Type 0
 Answers wants said (Ok s) = said ≡ Ok (sheet s)
 Answers wants said (Err (Bad e)) = said ≡ Err e
 Answers wants said (Err NoMemory) = wants
@@ -152,7 +156,7 @@ keptLines n s [] = false
 keptLines n s (l ∷ ls) = keptLine (nextLine n) s (words l) || elim (numbered (nextLine n) (withWords (nextLine n) s (words l))) [ Ok t ↦ keptLines (nextLine n) t ls | Err b ↦ false ]
 
 -- an answer is the text's; or there was no memory, which can be only where this is so
-abbrev pub Reads : Type 0 → Result Sheet BadLine → Result Script ReadFault → Type 0
-Reads wants said (Ok s) = said ≡ Ok (sheet s)
-Reads wants said (Err (Line b)) = said ≡ Err b
-Reads wants said (Err OutOfMemory) = wants
+abbrev pub Reads : {X : Type 0} → (X → Sheet) → Type 0 → Result Sheet BadLine → Result X ReadFault → Type 0
+Reads seen wants said (Ok s) = said ≡ Ok (seen s)
+Reads seen wants said (Err (Line b)) = said ≡ Err b
+Reads seen wants said (Err OutOfMemory) = wants

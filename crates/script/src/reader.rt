@@ -1,15 +1,18 @@
 // A whole script, read line by line.
 ghost use mathlib.Core.Bool.{true, _&&_};
 ghost use mathlib.Core.Path.{_≡_};
-ghost use Rattle.script.specs.Sheets.{Answers, Reads, sheet, blankSheet, withPeer, withEvent, withWords, numbered, more, finished, script, kept, keptLine, keptLines};
+ghost use Rattle.script.specs.Sheets.{Answers, Reads, sheet, whole, blankSheet, withPeer, withEvent, withWords, numbered, more, finished, script, kept, keptLine, keptLines};
 ghost use Rattle.script.specs.Words.{words, lines};
+ghost use Rattle.std.specs.Of.Vec.{vec-items};
 ghost use Rattle.std.specs.Results.{isOk};
+ghost use Rattle.std.specs.declared.option.Option.the-variants.{Some};
 use crate::links::first_bad_break;
 use crate::places::EventKeyed;
 use crate::places::PeerKeyed;
 use crate::places::is_known;
 use crate::places::place_of;
 use crate::sheet::BadLine;
+use crate::sheet::Draft;
 use crate::sheet::Event;
 use crate::sheet::LinkEvent;
 use crate::sheet::Peer;
@@ -23,12 +26,12 @@ use crate::words::next_line;
 use crate::words::next_word;
 use std::alloc::Global;
 
-impl Script {
-    // A script that says nothing yet.
-    fn new(heap: Global) -> Script
+impl Draft {
+    // A draft that says nothing yet.
+    fn new(heap: Global) -> Draft
         ensures { λ r. ⌜ sheet r ≡ blankSheet ⌝ }
     {
-        Script {
+        Draft {
             peers: Vec::new(heap),
             events: Vec::new(heap),
             rounds: None,
@@ -36,7 +39,7 @@ impl Script {
     }
 
     // One peer more, at its place by its number.
-    fn with_peer(mut self, peer: Peer) -> Result<Script, Refusal>
+    fn with_peer(mut self, peer: Peer) -> Result<Draft, Refusal>
         ensures { λ r. ⌜ Answers (isOk (withPeer peer (sheet self)) ≡ true) (withPeer peer (sheet self)) r ⌝ }
     {
         if is_known(self.peers.as_slice(), peer.id) {
@@ -50,7 +53,7 @@ impl Script {
     }
 
     // One event more, at its place by its tick, after those of the lines above.
-    fn with_event(mut self, event: Event) -> Result<Script, Refusal>
+    fn with_event(mut self, event: Event) -> Result<Draft, Refusal>
         ensures { λ r. ⌜ Answers (isOk (withEvent event (sheet self)) ≡ true) (withEvent event (sheet self)) r ⌝ }
     {
         if !is_known(self.peers.as_slice(), event.a) || !is_known(self.peers.as_slice(), event.b) {
@@ -67,7 +70,7 @@ impl Script {
     }
 
     // One statement more, from a line; none may follow `rounds`.
-    fn with(self, line: u64, statement: Statement) -> Result<Script, Refusal>
+    fn with(self, line: u64, statement: Statement) -> Result<Draft, Refusal>
         ensures { λ r. ⌜ Answers ((kept statement && isOk (more line (sheet self) statement)) ≡ true) (more line (sheet self) statement) r ⌝ }
     {
         if self.rounds.is_some() {
@@ -90,7 +93,7 @@ impl Script {
                 what: LinkEvent::Breaks,
                 line,
             }),
-            Statement::Rounds(count) => Ok(Script {
+            Statement::Rounds(count) => Ok(Draft {
                 rounds: Some(count),
                 ..self
             }),
@@ -99,16 +102,16 @@ impl Script {
 
     // The whole script after its last line: it says how many rounds, and breaks only links that stand.
     fn finished(self, last: u64) -> Result<Script, ReadFault>
-        ensures { λ r. ⌜ Reads ⊥ (finished last (sheet self)) r ⌝ }
+        ensures { λ r. ⌜ Reads whole ⊥ (finished last (sheet self)) r ⌝ }
     {
-        if self.rounds.is_none() {
+        let Some(rounds) = self.rounds else {
             return Err(ReadFault::Line(BadLine {
                 line: last,
                 expected: Expected::Rounds,
             }));
-        }
+        };
         match first_bad_break(self.events.as_slice()) {
-            None => Ok(self),
+            None => Ok(self.with_rounds(rounds)),
             Some(line) => Err(ReadFault::Line(BadLine {
                 line,
                 expected: Expected::StandingLink,
@@ -116,9 +119,25 @@ impl Script {
         }
     }
 
+    // The script of this draft, with its number of rounds.
+    fn with_rounds(self, rounds: u64) -> Script
+        ensures { λ r. ⌜ whole r ≡ record { peers = vec-items (self .peers); events = vec-items (self .events); rounds = Some rounds } ⌝ }
+    {
+        let Draft {
+            peers,
+            events,
+            rounds: _,
+        } = self;
+        Script {
+            peers,
+            events,
+            rounds,
+        }
+    }
+
     // One line more: nothing, or a statement.
-    fn with_line(self, number: u64, line: &[u8]) -> Result<Script, ReadFault>
-        ensures { λ r. ⌜ Reads (keptLine number (sheet self) (words (now (line .entry))) ≡ true) (numbered number (withWords number (sheet self) (words (now (line .entry))))) r ⌝ }
+    fn with_line(self, number: u64, line: &[u8]) -> Result<Draft, ReadFault>
+        ensures { λ r. ⌜ Reads sheet (keptLine number (sheet self) (words (now (line .entry))) ≡ true) (numbered number (withWords number (sheet self) (words (now (line .entry))))) r ⌝ }
     {
         let (word, _) = next_word(line);
         if word.is_empty() {
@@ -127,7 +146,7 @@ impl Script {
         let expected = match read_statement(line) {
             Err(expected) => expected,
             Ok(statement) => match self.with(number, statement) {
-                Ok(script) => return Ok(script),
+                Ok(draft) => return Ok(draft),
                 Err(Refusal::NoMemory) => return Err(ReadFault::OutOfMemory),
                 Err(Refusal::Bad(expected)) => expected,
             },
@@ -141,16 +160,16 @@ impl Script {
 
 // The script that a text is, or why it is none.
 pub fn read(heap: Global, text: &[u8]) -> Result<Script, ReadFault>
-    ensures { λ r. ⌜ Reads (keptLines 0 blankSheet (lines (now (text .entry))) ≡ true) (script (now (text .entry))) r ⌝ }
+    ensures { λ r. ⌜ Reads whole (keptLines 0 blankSheet (lines (now (text .entry))) ≡ true) (script (now (text .entry))) r ⌝ }
 {
-    let mut script = Script::new(heap);
+    let mut draft = Draft::new(heap);
     let mut number: u64 = 0;
     let mut rest = Some(text);
     while let Some(text) = rest {
         let (line, after) = next_line(text);
         number = number.saturating_add(1);
-        script = script.with_line(number, line)?;
+        draft = draft.with_line(number, line)?;
         rest = after;
     }
-    script.finished(number)
+    draft.finished(number)
 }

@@ -32,12 +32,20 @@ pub struct Event {
 pub struct Script {
     pub peers: Vec<Peer>,
     pub events: Vec<Event>,
-    pub rounds: Option<u64>,
+    pub rounds: u64,
+}
+
+// A script as far as it is read.
+#[derive(Drop)]
+pub(crate) struct Draft {
+    pub(crate) peers: Vec<Peer>,
+    pub(crate) events: Vec<Event>,
+    pub(crate) rounds: Option<u64>,
 }
 
 // Why a script can't have one statement more.
 #[derive(Clone, Copy, PartialEq, Eq, Debug)]
-pub enum Refusal {
+pub(crate) enum Refusal {
     Bad(Expected),
     NoMemory,
 }

@@ -111,7 +111,7 @@ mod tests {
         let Ok(script) = read(rt.alloc(), text.as_bytes()) else {
             return Err(Fail::new("refused"));
         };
-        check_eq(script.rounds, Some(2))?;
+        check_eq(script.rounds, 2)?;
         check(script.peers.len() == 2)?;
         check_eq(
             script.peers[0],

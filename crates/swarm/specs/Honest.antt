@@ -56,10 +56,17 @@ brings r h m = ltb m (size r) && isIn m h
 -- it starts with what it brings, which is the file's, and with nobody
 abbrev pub starts : Rules → List ℕ → Seen
 starts r h = record {
-    has = brings r h;
-    holds = λ m. cond (brings r h m) (getD (r .file) m 0) 0;
-    ways = λ m. cond (brings r h m) (way m (r .file)) [];
-    writes = true; shuts = []; row = []; rotation = []; lets = []; awaited = λ q m. 0; held = λ q. Nothing }
+  has = brings r h;
+  holds = λ m. cond (brings r h m) (getD (r .file) m 0) 0;
+  ways = λ m. cond (brings r h m) (way m (r .file)) [];
+  writes = true;
+  shuts = [];
+  row = [];
+  rotation = [];
+  lets = [];
+  awaited = λ q m. 0;
+  held = λ q. Nothing;
+}
 
 -- a round begins: the row turns, others are let ask, and the asks that were not met lapse
 abbrev pub begun : List ℕ → Seen → Seen

@@ -68,7 +68,7 @@ fn name_of(path: &str) -> &str {
 fn play(rt: &LibcRuntime, script: &Script) -> Result<(), AnyError> {
     let mut nodes = seat_all(rt.alloc(), script.peers.as_slice())?;
     let mut rest = script.events.as_slice();
-    for round in 0..script.rounds.unwrap_or(0) {
+    for round in 0..script.rounds {
         let due = begin_round(
             nodes.as_mut_slice(),
             rest,

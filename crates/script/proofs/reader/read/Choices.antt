@@ -8,8 +8,8 @@ use Rattle.script.specs.Words.{lines}
 
 abbrev pub Inv-loop-rest : given.InvT-loop-rest
 Inv-loop-rest l =
-    (withLines (l .number) (sheet (l .script)) (leftLines (l .rest)) ≡ withLines 0 blankSheet (lines (l .text))) ×
-    (keptLines (l .number) (sheet (l .script)) (leftLines (l .rest)) ≡ true → keptLines 0 blankSheet (lines (l .text)) ≡ true)
+    (withLines (l .number) (sheet (l .draft)) (leftLines (l .rest)) ≡ withLines 0 blankSheet (lines (l .text))) ×
+    (keptLines (l .number) (sheet (l .draft)) (leftLines (l .rest)) ≡ true → keptLines 0 blankSheet (lines (l .text)) ≡ true)
 
 abbrev pub μ-loop-rest : given.MeasureT-loop-rest
 μ-loop-rest l = left (l .rest)
