@@ -1,6 +1,7 @@
 pub mod Exits
 pub mod FirstLine
 pub mod FirstWord
+pub mod Inserting
 pub mod Leading
 pub mod NextPart
 pub mod NumeralExact
@@ -8,6 +9,7 @@ pub mod ReadDigits
 pub mod ReadWritten
 pub mod Reading
 pub mod SameWord
+pub mod ScriptSound
 pub mod Seeking
 pub mod Standing
 pub mod WrittenRead

@@ -2,6 +2,7 @@
 ghost use mathlib.Core.Bool.{true, _&&_};
 ghost use mathlib.Core.Path.{_≡_};
 ghost use Rattle.script.specs.Sheets.{Answers, Reads, sheet, whole, blankSheet, withPeer, withEvent, withWords, numbered, more, finished, script, kept, keptLine, keptLines};
+ghost use Rattle.script.specs.Sound.{ScriptSound};
 ghost use Rattle.script.specs.Words.{words, lines};
 ghost use Rattle.std.specs.Of.Vec.{vec-items};
 ghost use Rattle.std.specs.Results.{isOk};
@@ -160,7 +161,8 @@ impl Draft {
 
 // The script that a text is, or why it is none.
 pub fn read(heap: Global, text: &[u8]) -> Result<Script, ReadFault>
-    ensures { λ r. ⌜ Reads whole (keptLines 0 blankSheet (lines (now (text .entry))) ≡ true) (script (now (text .entry))) r ⌝ }
+    ensures said { λ r. ⌜ Reads whole (keptLines 0 blankSheet (lines (now (text .entry))) ≡ true) (script (now (text .entry))) r ⌝ }
+    ensures sound { λ r. ⌜ ScriptSound ⌝ }
 {
     let mut draft = Draft::new(heap);
     let mut number: u64 = 0;

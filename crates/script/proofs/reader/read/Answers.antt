@@ -3,6 +3,7 @@ use mathlib.Core.Bool.{true}
 use mathlib.Core.Path.{_≡_, ap, sym, subst, _∙_}
 use Prim.Native.Nat.{_<_}
 use Rattle.script.proofs.Reading.{left, leftLines, left-less, left-first, taken-line, kept-later, handed-fault, reads-whole}
+use Rattle.script.proofs.ScriptSound.{script-sound}
 use Rattle.script.proofs.reader.read.Needs as need
 use Rattle.script.specs.Sheets.{sheet, withLines, keptLines}
 use Rattle.script.specs.Words.{lines}
@@ -18,8 +19,12 @@ returns-in-Break-draft c =
     let line = c .next-line .result .0 .now in
     let after = c .next-line .result .1 in
     let first = left-first (c .loop-rest .rest) (c .in-Some .text) line after (c .in-Some .is) (c .next-line .ensures) in
-    reads-whole (c .from-residual .result) (λ h. c .loop-rest .inv .1 (ap (keptLines n s) first ∙ h)) (sym (ap (withLines n s) first) ∙ c .loop-rest .inv .0)
-    (handed-fault n (c .saturating-add-number .result) s line (leftLines after) (c .saturating-add-number .ensures) (c .in-Break-draft .field-0 .0) (c .from-residual .result) (c .in-Break-draft .ensures tt) (c .from-residual .ensures .1))
+    record {
+      said =
+          reads-whole (c .from-residual .result) (λ h. c .loop-rest .inv .1 (ap (keptLines n s) first ∙ h)) (sym (ap (withLines n s) first) ∙ c .loop-rest .inv .0)
+          (handed-fault n (c .saturating-add-number .result) s line (leftLines after) (c .saturating-add-number .ensures) (c .in-Break-draft .field-0 .0) (c .from-residual .result) (c .in-Break-draft .ensures tt) (c .from-residual .ensures .1));
+      sound = script-sound;
+    }
 
 pub loop-rest-less : need.loop-rest-less
 loop-rest-less c =
@@ -41,5 +46,9 @@ loop-rest-again c =
 pub returns : need.returns
 unfolding withLines
 returns c =
-    reads-whole (c .finished .result) (λ no-memory. absurd no-memory)
-    (sym (ap (λ rest. withLines (c .loop-rest .number) (sheet (c .loop-rest .draft)) (leftLines rest)) (c .in-rest .is)) ∙ c .loop-rest .inv .0) (c .finished .ensures)
+    record {
+      said =
+          reads-whole (c .finished .result) (λ no-memory. absurd no-memory)
+          (sym (ap (λ rest. withLines (c .loop-rest .number) (sheet (c .loop-rest .draft)) (leftLines rest)) (c .in-rest .is)) ∙ c .loop-rest .inv .0) (c .finished .ensures);
+      sound = script-sound;
+    }
