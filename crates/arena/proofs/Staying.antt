@@ -1,11 +1,11 @@
 -- Whoever stays linked to a peer has its turn there, whatever happens to all others.
-use mathlib.Core.Bool.{Bool, true, false, cond, _&&_, _||_, not}
-use mathlib.Core.List.{List, [], _∷_, _++_, map}
+use mathlib.Core.Bool.{Bool, true, _&&_, _||_, not}
+use mathlib.Core.List.{List, [], _∷_, map}
 use mathlib.Core.Logic.{_⊎_, inl, inr, ⊎-elim}
 use mathlib.Core.Path.{_≡_, refl, ap, sym, subst, _∙_}
 use Prim.Native.Nat.{ℕ, zero, suc, _<_, _≤_}
 use lib.Dec.{eqb, leb, ltb}
-use lib.ListN.{length, getD, take, length-map}
+use lib.ListN.{length, getD, length-map}
 use native.Mathlib.Omega.{arith}
 use Rattle.arena.specs.Fairness.{Played, FairRounds, after, noSeat, holders, apart, allApart}
 use Rattle.arena.specs.Seats.{Seat, willing, reseated, changeAt, linked, parted, happens, happenTill, begun, beginning}
@@ -14,12 +14,12 @@ use Rattle.script.specs.declared.sheet.Event.{Event}
 use Rattle.script.specs.declared.sheet.LinkEvent.{LinkEvent}
 use Rattle.script.specs.declared.sheet.LinkEvent.the-variants.{Opens, Breaks}
 use Rattle.std.proofs.shelf.Lists.{getD-map, take-all}
-use Rattle.std.proofs.shelf.Tests.{and-from, and-parts, cond-both, cond-true, or-right, eqb-true, false≢true, not-true}
+use Rattle.std.proofs.shelf.Tests.{and-from, and-parts, cond-both, cond-true, or-right, eqb-true, false≢true}
 use Rattle.std.proofs.shelf.Ways.{tells}
 use Rattle.swarm.proofs.InRow.{isIn-append}
 use Rattle.swarm.proofs.Rows.{Within, within-changed, first-or-nearer}
 use Rattle.swarm.specs.Code.{taken}
-use Rattle.swarm.specs.Turns.{Change, Joins, Leaves, isIn, changed, turned, first, noLeave}
+use Rattle.swarm.specs.Turns.{Change, Joins, Leaves, isIn, changed, noLeave}
 
 -- what is taken of changes leaves nobody whom they don't
 noLeave-taken : (q : ℕ) (shut : ℕ → Bool) (row : List ℕ) (cs : List Change) → noLeave q cs ≡ true → noLeave q (taken shut row cs) ≡ true

@@ -5,7 +5,7 @@ use mathlib.Core.Path.{_≡_, ap, sym, _∙_}
 use Prim.Native.Nat.{ℕ, _+_, _<_, _≤_}
 use lib.Dec.{eqb}
 use lib.ListN.{length, getD, drop}
-use Rattle.arena.specs.Seats.{seat, seats, willing}
+use Rattle.arena.specs.Seats.{seats, willing}
 use Rattle.arena.specs.declared.node.Node.{Node}
 use Rattle.rotation.specs.Rows.{row, room}
 use Rattle.std.proofs.shelf.Lists.{at-drop-more, at-drop-all}

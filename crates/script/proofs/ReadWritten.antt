@@ -9,7 +9,7 @@ use lib.Chars.{codes}
 use Rattle.script.proofs.NumeralExact.{is-written}
 use Rattle.script.proofs.SameWord.{is-decides}
 use Rattle.script.specs.Laws.{inRange, Spells, ReadWritten}
-use Rattle.script.specs.Statements.{Read, is, number, most, keyword, ended, pair, delay, later, statement, mostRounds}
+use Rattle.script.specs.Statements.{Read, is, number, most, keyword, ended, pair, delay, later, mostRounds}
 use Rattle.script.specs.Words.{numeral}
 use Rattle.script.specs.declared.statement.Expected.{Expected}
 use Rattle.script.specs.declared.statement.Expected.the-variants as Expected

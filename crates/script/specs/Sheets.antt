@@ -1,10 +1,9 @@
 -- What a script says, statement by statement. Assumes nothing.
 use mathlib.Core.Path.{_≡_}
-use mathlib.Core.Bool.{Bool, true, false, cond, _&&_, _||_, not}
+use mathlib.Core.Bool.{Bool, true, false, cond, _&&_, _||_}
 use mathlib.Core.List.{List, [], _∷_, _++_}
 use Prim.Native.Nat.{ℕ, suc, _+_, min}
 use lib.Dec.{eqb, ltb}
-use lib.ListN.{length}
 use Rattle.script.specs.Statements.{statement, most}
 use Rattle.script.specs.Words.{words, lines}
 use Rattle.script.specs.declared.sheet.BadLine.{BadLine}

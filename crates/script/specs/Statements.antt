@@ -9,7 +9,6 @@ use Rattle.script.specs.declared.statement.Expected.{Expected}
 use Rattle.script.specs.declared.statement.Expected.the-variants as Expected
 use Rattle.script.specs.declared.statement.Statement.{Statement}
 use Rattle.script.specs.declared.statement.Statement.the-variants as Statement
-use Rattle.std.specs.declared.option.Option.{Option}
 use Rattle.std.specs.declared.option.Option.the-variants.{Some, None}
 use Rattle.std.specs.declared.result.Result.{Result}
 use Rattle.std.specs.declared.result.Result.the-variants.{Ok, Err}

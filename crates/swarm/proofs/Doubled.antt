@@ -1,6 +1,5 @@
 -- A number that doubles while that stays below another comes to the greatest power of two below it, one step at a time.
 use mathlib.Core.Path.{_≡_, refl, _∙_}
-use mathlib.Core.Bool.{cond}
 use Prim.Native.Nat.{ℕ, zero, suc, _+_, _<_, _≤_}
 use lib.Dec.{ltb}
 use native.Mathlib.Omega.{arith}

@@ -4,9 +4,8 @@ use mathlib.Core.Bool.{Bool, true}
 use Prim.Native.Nat.{ℕ, _-_, _*_, _<_}
 use native.Mathlib.Nat.{le-of-eq}
 use Rattle.swarm.proofs.AllDone.{all-done, all-done-within}
-use Rattle.swarm.specs.Levels.{Enough, EnoughWithin, SoundWithin, TrueRounds}
-use Rattle.swarm.specs.Promise.{Sound}
-use Rattle.swarm.specs.Swarm.{Rules, size, Rounds}
+use Rattle.swarm.specs.Levels.{Enough, EnoughWithin}
+use Rattle.swarm.specs.Swarm.{Rules}
 
 -- true peers together have every piece
 abbrev Together : Rules → (ℕ → ℕ → Bool) → ℕ → ℕ → Type 0

@@ -6,9 +6,9 @@ use Prim.Native.Nat.{ℕ, suc, _<_}
 use lib.Dec.{eqb}
 use lib.ListN.{getD}
 use native.Mathlib.Omega.{arith}
-use Rattle.std.proofs.shelf.Tests.{and-from, and-parts, cases-bool, false≢true}
+use Rattle.std.proofs.shelf.Tests.{and-from, and-parts, both-ways, cases-bool}
 use Rattle.std.proofs.shelf.Ways.{tells}
-use Rattle.swarm.proofs.Comes.{good, bans, comes-cases}
+use Rattle.swarm.proofs.Comes.{good, comes-cases}
 use Rattle.swarm.proofs.Fits.{fits-right, right-fits}
 use Rattle.swarm.specs.Promise.{Right, ShutRightly}
 use Rattle.swarm.specs.Swarm.{Rules, World, Word, Missing, Has, Reach, begin, more, forgets, loses, comes, fits, at2, size}
@@ -47,7 +47,7 @@ true-good : (r : Rules) (b : Word) → (b .place < size r) × (getD (r .file) (b
 true-good r b s = and-from (b .asked) (fits r (b .place) (b .what) (b .its-way)) (s .3) (right-fits r (b .place) (b .what) (b .its-way) (s .0) (s .1) (s .2))
 
 true-false : {A : Type 0} {b : Bool} → b ≡ true → b ≡ false → A
-true-false h k = absurd (false≢true (sym k ∙ h))
+true-false {b = b} h k = absurd (both-ways b k h)
 
 -- no true peer is shut out
 spared : (r : Rules) (w : World) → Reach r w → (p q : ℕ) → w .shut p q ≡ true → r .true′ q ≡ false

@@ -1,12 +1,12 @@
 -- Changes that are taken one by one are those that are taken all at once.
 use mathlib.Core.Path.{_≡_, refl}
 use mathlib.Core.Bool.{Bool, true, false, cond, _||_, not}
-use mathlib.Core.List.{List, [], _∷_, _++_}
+use mathlib.Core.List.{List, [], _∷_}
 use Prim.Native.Nat.{ℕ}
 use lib.Dec.{ltb}
 use lib.ListN.{length}
 use Rattle.swarm.specs.Code.{taken}
-use Rattle.swarm.specs.Turns.{Change, Joins, Leaves, isIn, changed}
+use Rattle.swarm.specs.Turns.{Change, Joins, Leaves, changed}
 
 -- the row after those of these changes that are taken
 abbrev pub after : (ℕ → Bool) → List Change → List ℕ → List ℕ

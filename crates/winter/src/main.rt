@@ -18,20 +18,25 @@ struct Named {
 }
 
 fn main(rt: LibcRuntime) -> Result<(), AnyError> {
-    let mut scripts = Vec::new(rt.alloc());
-    for path in env::args(&rt)?.skip(1) {
-        scripts.push(read_file(&rt, path.as_str())?)?;
-    }
-    if scripts.is_empty() {
-        eprintln!(rt, "winter: expected the names of scripts")?;
-        return Err("no script".into());
-    }
-    for named in scripts {
+    for named in read_all(&rt)? {
         rt.print("winter ")?;
         rt.println(named.name.as_str())?;
         play(&rt, &named.script)?;
     }
     Ok(())
+}
+
+// Reads all scripts, so that none is played where one is bad.
+fn read_all(rt: &LibcRuntime) -> Result<Vec<Named>, AnyError> {
+    let mut scripts = Vec::new(rt.alloc());
+    for path in env::args(rt)?.skip(1) {
+        scripts.push(read_file(rt, path.as_str())?)?;
+    }
+    if scripts.is_empty() {
+        eprintln!(rt, "winter: expected the names of scripts")?;
+        return Err("no script".into());
+    }
+    Ok(scripts)
 }
 
 // Reads a script; what is wrong with it is said on standard error.
@@ -69,11 +74,7 @@ fn play(rt: &LibcRuntime, script: &Script) -> Result<(), AnyError> {
     let mut nodes = seat_all(rt.alloc(), script.peers.as_slice())?;
     let mut rest = script.events.as_slice();
     for round in 0..script.rounds {
-        let due = begin_round(
-            nodes.as_mut_slice(),
-            rest,
-            round.saturating_mul(ROUND_TICKS),
-        );
+        let due = begin_round(nodes.as_mut_slice(), rest, round);
         let (_, later) = rest.split_at(due);
         rest = later;
         print_round(rt, round, nodes.as_slice())?;

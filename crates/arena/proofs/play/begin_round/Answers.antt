@@ -1,6 +1,6 @@
 -- Each seat begins its round, after what was due has happened.
 use mathlib.Core.List.{map}
-use mathlib.Core.Path.{_≡_, ap, _∙_}
+use mathlib.Core.Path.{ap, _∙_}
 use native.Mathlib.Omega.{arith}
 use Rattle.arena.proofs.InPlace.{mapped-more, mapped-all}
 use Rattle.arena.proofs.Staying.{fair-rounds}

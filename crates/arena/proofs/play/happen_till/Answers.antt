@@ -1,7 +1,7 @@
 -- An event that is due happens, and the first that is not ends it.
-use mathlib.Core.Path.{_≡_, refl, ap, sym, _∙_}
+use mathlib.Core.Path.{refl, ap, sym, _∙_}
 use Prim.Native.Nat.{_+_}
-use lib.ListN.{getD, drop}
+use lib.ListN.{drop}
 use native.Mathlib.Omega.{arith}
 use Rattle.arena.proofs.Due.{happen-more, happen-stop, happen-end, due-more, due-stop, due-end}
 use Rattle.arena.proofs.play.happen_till.Needs as need

@@ -1,5 +1,5 @@
 -- One who takes it is passed, and one who does not is the answer.
-use mathlib.Core.Path.{_≡_, sym, _∙_}
+use mathlib.Core.Path.{sym, _∙_}
 use native.Mathlib.Omega.{arith}
 use Rattle.arena.proofs.Willing.{willing-next, willing-end}
 use Rattle.arena.proofs.play.is_willing.Needs as need

@@ -1,12 +1,12 @@
 -- An honest peer is seated after those before it, and a faulty one is passed.
 use mathlib.Core.List.{List, [], _++_, append-nil}
-use mathlib.Core.Path.{_≡_, ap, sym, _∙_}
+use mathlib.Core.Path.{ap, sym, _∙_}
 use Prim.Native.Nat.{ℕ}
 use lib.ListN.{getD}
 use Rattle.arena.proofs.Due.{noPeer, seated-honest, seated-faulty, seated-some, seated-end}
 use Rattle.arena.proofs.play.seat_all.Needs as need
 use Rattle.arena.proofs.play.seat_all.Needs.{then-peer·in-Continue-push, else-peer}
-use Rattle.arena.specs.Seats.{seats, seated}
+use Rattle.arena.specs.Seats.{seats}
 use Rattle.std.proofs.shelf.Results.{cases-from-err}
 use Rattle.std.specs.Of.Vec.{vec-items}
 

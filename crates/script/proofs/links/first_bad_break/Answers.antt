@@ -1,5 +1,5 @@
 -- An event that opens a link, or breaks one that stands, is passed, and the first other is the answer.
-use mathlib.Core.Path.{_≡_, sym}
+use mathlib.Core.Path.{sym}
 use native.Mathlib.Nat.{sub-zero}
 use Rattle.script.proofs.Standing.{bad-here, bad-later, bad-none}
 use Rattle.script.proofs.links.first_bad_break.Needs as need

@@ -1,7 +1,6 @@
 -- Whoever is found is there, and one who is found nowhere is not.
-use mathlib.Core.Path.{_≡_, sym, _∙_}
+use mathlib.Core.Path.{sym, _∙_}
 use mathlib.Core.Bool.{false}
-use lib.ListN.{getD}
 use native.Mathlib.Omega.{arith}
 use Rattle.script.proofs.Seeking.{known-next, known-none}
 use Rattle.script.proofs.places.is_known.Needs as need

@@ -1,5 +1,5 @@
 -- The first item of a greater key is the place, and the end where there is none.
-use mathlib.Core.Path.{_≡_, ap}
+use mathlib.Core.Path.{ap}
 use native.Mathlib.Omega.{arith}
 use Rattle.script.proofs.Seeking.{place-here, place-more, place-end}
 use Rattle.script.proofs.places.place_of.Needs as need

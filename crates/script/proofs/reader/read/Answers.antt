@@ -1,6 +1,5 @@
 -- Each line is taken by the definition's own step.
-use mathlib.Core.Bool.{true}
-use mathlib.Core.Path.{_≡_, ap, sym, subst, _∙_}
+use mathlib.Core.Path.{ap, sym, subst, _∙_}
 use Prim.Native.Nat.{_<_}
 use Rattle.script.proofs.Reading.{left, leftLines, left-less, left-first, taken-line, kept-later, handed-fault, reads-whole}
 use Rattle.script.proofs.ScriptSound.{script-sound}

@@ -1,5 +1,5 @@
 -- The number doubles while that stays below, as the definition has it.
-use mathlib.Core.Path.{_≡_, refl, sym, _∙_}
+use mathlib.Core.Path.{refl, sym, _∙_}
 use native.Mathlib.Omega.{arith}
 use Rattle.swarm.proofs.Doubled.{ahead-more, doubled-done}
 use Rattle.swarm.proofs.Paths.{way-exact, way-unique}

@@ -1,6 +1,6 @@
 -- What a rotation makes of one change is what the row makes of it.
 use mathlib.Core.List.{[], _∷_}
-use mathlib.Core.Path.{_≡_, ap, sym, _∙_}
+use mathlib.Core.Path.{ap, sym, _∙_}
 use Rattle.rotation.proofs.Changes.{join-taken, join-refused, leave-taken}
 use Rattle.rotation.proofs.row.Rotation.change.Needs as need
 use Rattle.rotation.specs.Rows.{row, meant, nobody}

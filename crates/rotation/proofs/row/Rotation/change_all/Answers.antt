@@ -1,6 +1,5 @@
 -- Changes that are taken one by one are those that are taken all at once.
-use mathlib.Core.List.{[]}
-use mathlib.Core.Path.{_≡_, ap, sym, _∙_}
+use mathlib.Core.Path.{ap, sym, _∙_}
 use lib.ListN.{getD, drop}
 use Prim.Native.Nat.{_+_}
 use Rattle.rotation.proofs.row.Rotation.change_all.Needs as need

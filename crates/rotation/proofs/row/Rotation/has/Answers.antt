@@ -1,8 +1,5 @@
 -- The one that is found is in the row, and one place more without it is looked at.
-use mathlib.Core.Path.{_≡_, refl, sym, _∙_}
-use mathlib.Core.Bool.{false}
-use lib.Dec.{eqb}
-use lib.ListN.{getD}
+use mathlib.Core.Path.{refl, sym, _∙_}
 use native.Mathlib.Omega.{arith}
 use Rattle.rotation.proofs.InRow.{isIn-at, isIn-more}
 use Rattle.rotation.proofs.row.Rotation.has.Needs as need

@@ -1,9 +1,6 @@
 -- Who is there changes nothing, and another comes at the end.
-use mathlib.Core.Path.{_≡_, sym, _∙_, ap}
-use mathlib.Core.Bool.{Bool, true, false, _||_}
-use mathlib.Core.List.{_++_, _∷_, []}
+use mathlib.Core.Path.{sym, _∙_}
 use native.Mathlib.Omega.{arith}
-use lib.ListN.{length}
 use Rattle.rotation.proofs.InRow.{join-there, join-new, length-front}
 use Rattle.rotation.specs.Rows.{row}
 use Rattle.rotation.proofs.row.Rotation.join.Needs as need

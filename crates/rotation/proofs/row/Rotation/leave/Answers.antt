@@ -6,7 +6,6 @@ use lib.ListN.{length, getD, take}
 use Rattle.rotation.proofs.InRow.{without-kept}
 use Rattle.rotation.proofs.row.Rotation.leave.Needs as need
 use Rattle.rotation.proofs.row.Rotation.leave.Needs.{then-x-id, else-x-id}
-use Rattle.rotation.specs.Rows.{row}
 use Rattle.std.proofs.shelf.Filters.{keeping-more-set, keeping-more-no}
 use Rattle.std.proofs.shelf.Lists.{getD-default}
 use Rattle.std.proofs.shelf.Ways.{tells}
