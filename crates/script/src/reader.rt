@@ -1,10 +1,11 @@
 // A whole script, read line by line.
+ghost use Prim.Native.Nat.{_≤_};
 ghost use mathlib.Core.Bool.{true, _&&_};
 ghost use mathlib.Core.Path.{_≡_};
 ghost use Rattle.script.specs.Sheets.{Answers, Reads, sheet, whole, blankSheet, withPeer, withEvent, withWords, numbered, more, finished, script, kept, keptLine, keptLines};
 ghost use Rattle.script.specs.Sound.{ScriptSound};
 ghost use Rattle.script.specs.Words.{words, lines};
-ghost use Rattle.std.specs.Of.Vec.{vec-items};
+ghost use Rattle.std.specs.Of.Vec.{vec-cap, vec-items, vec-len};
 ghost use Rattle.std.specs.Results.{isOk};
 ghost use Rattle.std.specs.declared.option.Option.the-variants.{Some};
 use crate::links::first_bad_break;
@@ -41,7 +42,7 @@ impl Draft {
 
     // One peer more, at its place by its number.
     fn with_peer(mut self, peer: Peer) -> Result<Draft, Refusal>
-        ensures { λ r. ⌜ Answers (isOk (withPeer peer (sheet self)) ≡ true) (withPeer peer (sheet self)) r ⌝ }
+        ensures { λ r. ⌜ Answers ((isOk (withPeer peer (sheet self)) ≡ true) × (vec-cap (self .peers) ≤ vec-len (self .peers))) (withPeer peer (sheet self)) r ⌝ }
     {
         if is_known(self.peers.as_slice(), peer.id) {
             return Err(Refusal::Bad(Expected::NewPeer));
@@ -55,7 +56,7 @@ impl Draft {
 
     // One event more, at its place by its tick, after those of the lines above.
     fn with_event(mut self, event: Event) -> Result<Draft, Refusal>
-        ensures { λ r. ⌜ Answers (isOk (withEvent event (sheet self)) ≡ true) (withEvent event (sheet self)) r ⌝ }
+        ensures { λ r. ⌜ Answers ((isOk (withEvent event (sheet self)) ≡ true) × (vec-cap (self .events) ≤ vec-len (self .events))) (withEvent event (sheet self)) r ⌝ }
     {
         if !is_known(self.peers.as_slice(), event.a) || !is_known(self.peers.as_slice(), event.b) {
             return Err(Refusal::Bad(Expected::KnownPeer));
