@@ -5,6 +5,7 @@ use Prim.Native.Nat.{ℕ, suc, _*_, min}
 use lib.Dec.{eqb, leb}
 use Rattle.arena.specs.declared.node.Node.{Node}
 use Rattle.rotation.specs.Rows.{row, room, nobody}
+use Rattle.script.specs.Statements.{most}
 use Rattle.script.specs.declared.sheet.Event.{Event}
 use Rattle.script.specs.declared.sheet.LinkEvent.the-variants.{Opens, Breaks}
 use Rattle.script.specs.declared.sheet.Peer.{Peer}
@@ -69,7 +70,7 @@ begun s = record { id = s .id; row = turned (s .row); holder = first (s .row) }
 
 -- the tick at which a round of 64 ticks begins, as far as 64 bits go
 abbrev pub beginning : ℕ → ℕ
-beginning k = min (k * 64) 18446744073709551615
+beginning k = min (k * 64) most
 
 -- what is due up to the beginning of a round happens, and then it begins at each peer
 abbrev pub roundAt : ℕ → List Event → List Seat → List Seat
