@@ -1,1 +1,2 @@
 // The tree over the pieces of a file as byte strings: definitions and laws.
+#![tactic(auto)]

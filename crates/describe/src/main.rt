@@ -1,4 +1,6 @@
 // Makes the description and the records of a file, shows a description, and checks a file against one.
+#![tactic(auto)]
+
 mod comparing;
 mod making;
 mod reading;

@@ -1,4 +1,6 @@
 // Prints the SHA-256 of a file taken as one stream, or the root of the tree over its pieces; for measuring and comparing.
+#![tactic(auto)]
+
 use anyhow::anyhow;
 use merkle::Digests;
 use sha256::Hasher;

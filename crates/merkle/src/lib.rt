@@ -1,4 +1,6 @@
 // A file by the numbers of its description: its length, and the root of the tree over its pieces.
+#![tactic(auto)]
+
 mod checking;
 mod digests;
 mod knowing;

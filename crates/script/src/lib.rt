@@ -1,4 +1,6 @@
 // Scripts that say what a swarm goes through: the reader.
+#![tactic(auto)]
+
 mod links;
 mod message;
 mod number;

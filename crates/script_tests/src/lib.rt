@@ -1,4 +1,6 @@
 // Tests of the script reader, in a crate of their own so that the reader is proved once.
+#![tactic(auto)]
+
 #[cfg(test)]
 mod tests {
     use script::{BadLine, Event, Expected, LinkEvent, Peer, ReadFault, read};

@@ -1,4 +1,6 @@
 // SHA-256: the digest of a byte string, at once, part by part, or of four strings side by side.
+#![tactic(auto)]
+
 mod absorb;
 mod block;
 mod constants;

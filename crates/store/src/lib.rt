@@ -1,4 +1,6 @@
 // The record of a piece as a block of bytes: what is written, and what is read of any byte string.
+#![tactic(auto)]
+
 mod flaw;
 mod records;
 mod zeros;

@@ -1,4 +1,6 @@
 // The promise of the whole swarm as theorems on contracts, and the faults of its protocol.
+#![tactic(auto)]
+
 mod bound;
 mod fault;
 mod honest;

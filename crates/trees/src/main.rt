@@ -1,4 +1,6 @@
 // The trees of files of 1 to 40 pieces, and what is said of their pieces and paths, as they are and damaged.
+#![tactic(auto)]
+
 ghost use Rattle.std.specs.Prelude.{◌≤◌};
 
 mod damaging;

@@ -1,4 +1,6 @@
 // Prints what RFC 6234 says of messages beside their digests as they are computed here; ends with status 1 where one differs.
+#![tactic(auto)]
+
 mod standard;
 mod ways;
 

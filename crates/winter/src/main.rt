@@ -1,4 +1,6 @@
 // Plays each script that the command line names, and prints for each round who has the turn at each honest peer.
+#![tactic(auto)]
+
 use anyhow::anyhow;
 use arena::{Node, begin_round, seat_all};
 use script::{ReadFault, Script, read};

@@ -1,4 +1,6 @@
 // Descriptions and settings as bytes: what is written, and what is read of any byte string. And bytes as text.
+#![tactic(auto)]
+
 mod big_endian;
 mod damage;
 mod description;
