@@ -7,18 +7,18 @@ use Rattle.arena.specs.Seats.{seat, seats, begun, happen_till, due_till}
 
 pub loop-i-preserved : goal.loop-i-preserved
 loop-i-preserved c =
-    mapped_more seat begun c.happen-till-due.new.nodes c.loop-i.nodes c.loop-i.i c.index-nodes-i.result c.begin.result
+    mapped_more seat begun c.happen_till-due.new.nodes c.loop-i.nodes c.loop-i.i c.index-nodes-i.result c.begin.result
     c.loop-i-test.true (omega arith) c.loop-i.invariant c.index-nodes-i.is c.begin.ensures
 
 pub returns : goal.returns
 returns c =
     let es = c.args.events.now in
     let ss = seats c.args.nodes.now in
-    let at-beginning = c.saturating-mul.ensures in
-    let all = mapped_all seat begun c.happen-till-due.new.nodes c.loop-i.nodes c.loop-i.i c.loop-i-test.false c.loop-i.invariant in
+    let at-beginning = c.saturating_mul.ensures in
+    let all = mapped_all seat begun c.happen_till-due.new.nodes c.loop-i.nodes c.loop-i.i c.loop-i-test.false c.loop-i.invariant in
     record {
-      after = all ∙ ap (map begun) c.happen-till-due.ensures.after ∙ ap (λ t. map begun (happen_till t es ss)) at-beginning;
-      due = c.happen-till-due.ensures.due ∙ ap (λ t. due_till t es) at-beginning;
-      bound = c.happen-till-due.ensures.bound;
+      after = all ∙ ap (map begun) c.happen_till-due.ensures.after ∙ ap (λ t. map begun (happen_till t es ss)) at-beginning;
+      due = c.happen_till-due.ensures.due ∙ ap (λ t. due_till t es) at-beginning;
+      bound = c.happen_till-due.ensures.bound;
       fair = fair-rounds;
     }

@@ -18,25 +18,25 @@ folded-requires t c =
     let between = cut_between c.args.pieces (omega arith) in
     (search rules, omega (arith, c.split-left.ensures.value))
 
-pub returns-in-err-inner : goal.returns-in-err-inner
-returns-in-err-inner t c =
-    c.from-residual.ensures ∙ sym (leads_in_front _ _ _ _ c.if-path-lt32.false c.if-pieces-lt2.false
-    c.split-left.ensures.value c.split-at.ensures.front c.split-at.ensures.back c.if-place-left.true (sym c.in-err-inner.was ∙ c.folded.ensures))
+pub returns-in_err-inner : goal.returns-in_err-inner
+returns-in_err-inner t c =
+    c.from_residual.ensures ∙ sym (leads_in_front _ _ _ _ c.if-path-lt32.false c.if-pieces-lt2.false
+    c.split-left.ensures.value c.split_at.ensures.front c.split_at.ensures.back c.if-place-left.true (sym c.in_err-inner.was ∙ c.folded.ensures))
 
-pub overflow-sub-pieces : goal.overflow-sub-pieces
-overflow-sub-pieces t c = omega (arith, cut_between c.args.pieces (omega arith), c.split-left.ensures.value)
+pub overflow_sub-pieces : goal.overflow_sub-pieces
+overflow_sub-pieces t c = omega (arith, cut_between c.args.pieces (omega arith), c.split-left.ensures.value)
 
-pub returns-in-err-inner-2 : goal.returns-in-err-inner-2
-returns-in-err-inner-2 t c =
-    c.from-residual-in-err-inner-2.ensures ∙ sym (leads_in_back _ _ _ _ c.if-path-lt32.false c.if-pieces-lt2.false
-    c.split-left.ensures.value c.split-at.ensures.front c.split-at.ensures.back c.if-place-left.false (sym c.in-err-inner-2.was ∙ c.folded-else-place-left.ensures))
+pub returns-in_err-inner-2 : goal.returns-in_err-inner-2
+returns-in_err-inner-2 t c =
+    c.from_residual-in_err-inner-2.ensures ∙ sym (leads_in_back _ _ _ _ c.if-path-lt32.false c.if-pieces-lt2.false
+    c.split-left.ensures.value c.split_at.ensures.front c.split_at.ensures.back c.if-place-left.false (sym c.in_err-inner-2.was ∙ c.folded-else-place-left.ensures))
 
-pub returns-in-ok-inner : goal.returns-in-ok-inner
-returns-in-ok-inner t c =
-    ap Some c.node-over.ensures ∙ sym (leads_in_front _ _ _ _ c.if-path-lt32.false c.if-pieces-lt2.false
-    c.split-left.ensures.value c.split-at.ensures.front c.split-at.ensures.back c.if-place-left.true (sym c.in-ok-inner.was ∙ c.folded.ensures))
+pub returns-in_ok-inner : goal.returns-in_ok-inner
+returns-in_ok-inner t c =
+    ap Some c.node_over.ensures ∙ sym (leads_in_front _ _ _ _ c.if-path-lt32.false c.if-pieces-lt2.false
+    c.split-left.ensures.value c.split_at.ensures.front c.split_at.ensures.back c.if-place-left.true (sym c.in_ok-inner.was ∙ c.folded.ensures))
 
-pub returns-in-ok-inner-2 : goal.returns-in-ok-inner-2
-returns-in-ok-inner-2 t c =
-    ap Some c.node-over-else-place-left.ensures ∙ sym (leads_in_back _ _ _ _ c.if-path-lt32.false c.if-pieces-lt2.false
-    c.split-left.ensures.value c.split-at.ensures.front c.split-at.ensures.back c.if-place-left.false (sym c.in-ok-inner-2.was ∙ c.folded-else-place-left.ensures))
+pub returns-in_ok-inner-2 : goal.returns-in_ok-inner-2
+returns-in_ok-inner-2 t c =
+    ap Some c.node_over-else-place-left.ensures ∙ sym (leads_in_back _ _ _ _ c.if-path-lt32.false c.if-pieces-lt2.false
+    c.split-left.ensures.value c.split_at.ensures.front c.split_at.ensures.back c.if-place-left.false (sym c.in_ok-inner-2.was ∙ c.folded-else-place-left.ensures))

@@ -7,8 +7,8 @@ use Rattle.merkle.proofs.paths.top_of.Goals as goal
 pub returns-then-leaves-eq1 : goal.returns-then-leaves-eq1
 returns-then-leaves-eq1 c = root_alone c.args.leaves.now c.if-leaves-eq1.true
 
-pub overflow-sub-result : goal.overflow-sub-result
-overflow-sub-result c = omega (arith, cut_between (length c.args.leaves.now) (omega arith))
+pub overflow_sub-result : goal.overflow_sub-result
+overflow_sub-result c = omega (arith, cut_between (length c.args.leaves.now) (omega arith))
 
 pub bounds-nodes-split : goal.bounds-nodes-split
 bounds-nodes-split c =

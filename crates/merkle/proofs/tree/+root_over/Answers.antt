@@ -7,14 +7,14 @@ use Rattle.merkle.proofs.tree.+root_over.Goals as goal
 pub returns-then-leaves-eq1 : goal.returns-then-leaves-eq1
 returns-then-leaves-eq1 t c = root_alone c.args.leaves.now c.if-leaves-eq1.true
 
-pub split-at-requires : goal.split-at-requires
-split-at-requires t c = omega (arith, cut_between (length c.args.leaves.now) (omega arith))
+pub split_at-requires : goal.split_at-requires
+split_at-requires t c = omega (arith, cut_between (length c.args.leaves.now) (omega arith))
 
-pub root-over-requires : goal.root-over-requires
-root-over-requires t c = omega (arith, cut_between (length c.args.leaves.now) (omega arith))
+pub root_over-requires : goal.root_over-requires
+root_over-requires t c = omega (arith, cut_between (length c.args.leaves.now) (omega arith))
 
-pub root-over-requires-2 : goal.root-over-requires-2
-root-over-requires-2 t c = omega (arith, cut_between (length c.args.leaves.now) (omega arith))
+pub root_over-requires-2 : goal.root_over-requires-2
+root_over-requires-2 t c = omega (arith, cut_between (length c.args.leaves.now) (omega arith))
 
 pub returns : goal.returns
 returns t c = cc (root_of_halves c.args.leaves.now (omega arith))

@@ -12,7 +12,7 @@ unreachable-requires c =
     let q = length-chunk 16384 16384 group (omega (arith, long)) in
     let r = length-chunk 32768 16384 group (omega (arith, long)) in
     let s = length-chunk 49152 16384 group (omega (arith, long)) in
-    both_ways _ (sym c.in-default.ensures.fits) (fits_four _ _ _ _ p q r s)
+    both_ways _ (sym c.in_default.ensures.fits) (fits_four _ _ _ _ p q r s)
 
 pub returns : goal.returns
 returns c = c.in-Ok.ensures.value ∙ sym (leaves_four c.args.group.now c.requires)

@@ -7,16 +7,16 @@ use Rattle.merkle.proofs.tree.node_over.Goals as goal
 never_refused : (n : ℕ) → false ≡ counts n → n < 2 ^ 61 → ⊥
 never_refused n e h = omega (arith, ltb-false n (2 ^ 61) (sym e))
 
-pub unreachable-requires-in-default-update : goal.unreachable-requires-in-default-update
-unreachable-requires-in-default-update c =
+pub unreachable-requires-in_default-update : goal.unreachable-requires-in_default-update
+unreachable-requires-in_default-update c =
     let begun = c.in-Ok.ensures.taken [] c.new.ensures in
-    never_refused (c.in-Ok.begun.stream.count + length c.args.left.now) c.in-default-update.ensures.fits (omega (arith, begun.counted))
+    never_refused (c.in-Ok.begun.stream.count + length c.args.left.now) c.in_default-update.ensures.fits (omega (arith, begun.counted))
 
-pub unreachable-requires-in-default-update-2 : goal.unreachable-requires-in-default-update-2
-unreachable-requires-in-default-update-2 c =
+pub unreachable-requires-in_default-update-2 : goal.unreachable-requires-in_default-update-2
+unreachable-requires-in_default-update-2 c =
     let begun = c.in-Ok.ensures.taken [] c.new.ensures in
     let half = c.in-Ok-update.ensures.taken _ begun in
-    never_refused (c.in-Ok-update.half.stream.count + length c.args.right.now) c.in-default-update-2.ensures.fits (omega (arith, simp length-append at half.counted))
+    never_refused (c.in-Ok-update.half.stream.count + length c.args.right.now) c.in_default-update-2.ensures.fits (omega (arith, simp length-append at half.counted))
 
 pub returns : goal.returns
 returns c =

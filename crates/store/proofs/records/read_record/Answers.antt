@@ -17,8 +17,8 @@ returns-then-block-ne-SIZE c = with_laws (search rules)
 pub returns-then-count-gt-MOST : goal.returns-then-count-gt-MOST
 returns-then-count-gt-MOST c = with_laws (search rules)
 
-pub returns-then-not-all-zero : goal.returns-then-not-all-zero
-returns-then-not-all-zero c = with_laws (search (rules, rest_of))
+pub returns-then-not-all_zero : goal.returns-then-not-all_zero
+returns-then-not-all_zero c = with_laws (search (rules, rest_of))
 
 pub returns : goal.returns
 returns c = with_laws (search (rules, rest_of, four_bytes))

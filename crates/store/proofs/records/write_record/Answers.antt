@@ -12,10 +12,10 @@ returns c =
     let out = c.args.block.now in
     let room : fits r out ≡ true = search rules in
     let sized : length r.digest ≡ 32 = search rules in
-    let number : c.to-be-bytes.result ≡ bytes_of 4 r.piece = search rules in
+    let number : c.to_be_bytes.result ≡ bytes_of 4 r.piece = search rules in
     record {
       answer = sym room;
       bytes = put_record out (bytes_of 4 r.piece) r.digest r.path c.fill.new.self (digests r.path) refl sized c.if-block-ne-SIZE.false (omega arith) _
-          (simp (c.copy-from-slice.ensures.after, c.copy-from-slice-2.ensures.after, c.copy-from-slice-3.ensures.after, number))
+          (simp (c.copy_from_slice.ensures.after, c.copy_from_slice-2.ensures.after, c.copy_from_slice-3.ensures.after, number))
           (c.fill.ensures.after (λ y e. e)) ∙ sym (cond-true _ _ _ room);
     }

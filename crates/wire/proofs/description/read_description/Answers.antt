@@ -9,23 +9,23 @@ use Rattle.wire.specs.Laws.{IsDescription, ReadsWritten, WritesRead}
 with_laws : {P Q : Type 0} → P → Q → record { read : P; possible : Q; round_trip : ReadsWritten IsDescription description_bytes read_description; one_form : WritesRead IsDescription description_bytes read_description }
 with_laws p q = record { read = p; possible = q; round_trip = description_read; one_form = description_written }
 
-pub returns-in-default : goal.returns-in-default
-returns-in-default c = with_laws (search rules) (search rules)
+pub returns-in_default : goal.returns-in_default
+returns-in_default c = with_laws (search rules) (search rules)
 
 pub returns-then-kind-ne1 : goal.returns-then-kind-ne1
 returns-then-kind-ne1 c = with_laws (search rules) (search rules)
 
-pub returns-in-default-split-first-chunk : goal.returns-in-default-split-first-chunk
-returns-in-default-split-first-chunk c = with_laws (search rules) (search rules)
+pub returns-in_default-split_first_chunk : goal.returns-in_default-split_first_chunk
+returns-in_default-split_first_chunk c = with_laws (search rules) (search rules)
 
-pub returns-in-default-split-first-chunk-2 : goal.returns-in-default-split-first-chunk-2
-returns-in-default-split-first-chunk-2 c = with_laws (search rules) (search rules)
+pub returns-in_default-split_first_chunk-2 : goal.returns-in_default-split_first_chunk-2
+returns-in_default-split_first_chunk-2 c = with_laws (search rules) (search rules)
 
-pub returns-in-default-split-first : goal.returns-in-default-split-first
-returns-in-default-split-first c = with_laws (search rules) (search rules)
+pub returns-in_default-split_first : goal.returns-in_default-split_first
+returns-in_default-split_first c = with_laws (search rules) (search rules)
 
-pub returns-then-is-err : goal.returns-then-is-err
-returns-then-is-err c = with_laws (search rules) (search rules)
+pub returns-then-is_err : goal.returns-then-is_err
+returns-then-is_err c = with_laws (search rules) (search rules)
 
 pub returns-then-name-from : goal.returns-then-name-from
 returns-then-name-from c = with_laws (search rules) (search rules)

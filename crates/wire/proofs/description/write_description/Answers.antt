@@ -14,5 +14,5 @@ returns c =
     let put = put_all c.args.out.now (bytes_of 8 d.len) d.root d.name refl sized (omega arith) in
     record {
       count = sym (cond-true _ _ _ room);
-      bytes = simp (c.copy-from-slice.ensures.after, c.copy-from-slice-2.ensures.after, c.copy-from-slice-3.ensures.after, c.bytes8.ensures) put ∙ sym (cond-true _ _ _ room);
+      bytes = simp (c.copy_from_slice.ensures.after, c.copy_from_slice-2.ensures.after, c.copy_from_slice-3.ensures.after, c.bytes8.ensures) put ∙ sym (cond-true _ _ _ room);
     }

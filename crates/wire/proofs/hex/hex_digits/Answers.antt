@@ -26,8 +26,8 @@ loop-b-preserved c =
     let all = string_bytes c.push-in-loop-b.new.self in
     let b = get_or bs i 0 in
     let left : text ++ hex_of (drop i bs) ≡ text ++ (hex_digit (b / 16) ∷ hex_digit (b % 16) ∷ hex_of (drop (i + 1) bs)) = at_drop_more (λ rest. text ++ hex_of rest) bs i 0 (omega arith) in
-    let high = one_more (b / 16) c.digit.result text half (omega (arith, c.type-inv.bytes i)) c.digit.ensures c.in-ok-push.ensures.bytes in
-    let low = one_more (b % 16) c.digit-in-loop-b.result half all (omega arith) c.digit-in-loop-b.ensures c.in-ok-push-2.ensures.bytes in
+    let high = one_more (b / 16) c.digit.result text half (omega (arith, c.type_inv.bytes i)) c.digit.ensures c.in_ok-push.ensures.bytes in
+    let low = one_more (b % 16) c.digit-in-loop-b.result half all (omega arith) c.digit-in-loop-b.ensures c.in_ok-push-2.ensures.bytes in
     two_more (hex_digit (b / 16)) (hex_digit (b % 16)) text half all (hex_of (drop (i + 1) bs)) high low ∙ sym left ∙ c.loop-b.invariant
 
 pub returns : goal.returns

@@ -9,20 +9,20 @@ use Rattle.wire.specs.Laws.{IsSettings, ReadsWritten, WritesRead}
 with_laws : {P : Type 0} → P → record { read : P; round_trip : ReadsWritten IsSettings settings_bytes read_settings; one_form : WritesRead IsSettings settings_bytes read_settings }
 with_laws p = record { read = p; round_trip = settings_read; one_form = settings_written }
 
-pub returns-in-default : goal.returns-in-default
-returns-in-default c = with_laws (search rules)
+pub returns-in_default : goal.returns-in_default
+returns-in_default c = with_laws (search rules)
 
-pub returns-in-default-split-first-chunk : goal.returns-in-default-split-first-chunk
-returns-in-default-split-first-chunk c = with_laws (search rules)
+pub returns-in_default-split_first_chunk : goal.returns-in_default-split_first_chunk
+returns-in_default-split_first_chunk c = with_laws (search rules)
 
-pub returns-in-default-split-first-chunk-2 : goal.returns-in-default-split-first-chunk-2
-returns-in-default-split-first-chunk-2 c = with_laws (search rules)
+pub returns-in_default-split_first_chunk-2 : goal.returns-in_default-split_first_chunk-2
+returns-in_default-split_first_chunk-2 c = with_laws (search rules)
 
 pub returns-then-number2-ne-ROUND : goal.returns-then-number2-ne-ROUND
 returns-then-number2-ne-ROUND c = with_laws (search rules)
 
-pub returns-then-not-is-empty : goal.returns-then-not-is-empty
-returns-then-not-is-empty c = with_laws (search rules)
+pub returns-then-not-is_empty : goal.returns-then-not-is_empty
+returns-then-not-is_empty c = with_laws (search rules)
 
 pub returns : goal.returns
 returns c = with_laws (search rules)

@@ -6,8 +6,8 @@ use Rattle.merkle.proofs.digests.Digests.push_fours.Goals as goal
 pub loop-i-init : goal.loop-i-init
 loop-i-init c = grew_none _ _
 
-pub push-four-requires : goal.push-four-requires
-push-four-requires c =
+pub push_four-requires : goal.push_four-requires
+push_four-requires c =
     let start = 65536 * c.loop-i.i in
     let part = c.args.part.now in
     let size : start + 65536 - start ≡ 65536 = omega arith in
@@ -19,7 +19,7 @@ push-four-requires c =
 pub loop-i-preserved : goal.loop-i-preserved
 loop-i-preserved c =
     let start = 65536 * c.loop-i.i in
-    let more = c.push-four.ensures in
+    let more = c.push_four.ensures in
     grew_more _ _ _ _ start (start + 65536 - start) _ c.loop-i.invariant (omega (arith, c.loop-i-test.true)) (omega arith) more.taken more.counted more.same
 
 pub returns : goal.returns

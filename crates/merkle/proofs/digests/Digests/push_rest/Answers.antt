@@ -3,10 +3,10 @@ use Rattle.std.proofs.lemmas.Bool.{eqb-true}
 use Rattle.merkle.proofs.Growing.{both-taken, front_taken}
 use Rattle.merkle.proofs.digests.Digests.push_rest.Goals as goal
 
-pub returns-then-not-is-empty : goal.returns-then-not-is-empty
-returns-then-not-is-empty c =
-    let cut = c.split-at.ensures in
-    let first = c.push-each.ensures in
+pub returns-then-not-is_empty : goal.returns-then-not-is_empty
+returns-then-not-is_empty c =
+    let cut = c.split_at.ensures in
+    let first = c.push_each.ensures in
     let second = c.push.ensures in
     record {
       taken = both-taken _ _ _ _ _ _ cut.by_index.0 first.taken second.taken;
@@ -14,11 +14,11 @@ returns-then-not-is-empty c =
       same = second.same ∙ first.same;
     }
 
-pub returns-else-not-is-empty : goal.returns-else-not-is-empty
-returns-else-not-is-empty c =
-    let cut = c.split-at.ensures in
-    let first = c.push-each.ensures in
-    let none : length c.split-at.result.1.now ≡ 0 = eqb-true _ _ (sym c.if-not-is-empty.ensures) in
+pub returns-else-not-is_empty : goal.returns-else-not-is_empty
+returns-else-not-is_empty c =
+    let cut = c.split_at.ensures in
+    let first = c.push_each.ensures in
+    let none : length c.split_at.result.1.now ≡ 0 = eqb-true _ _ (sym c.if-not-is_empty.ensures) in
     record {
       taken = front_taken _ _ _ _ _ cut.by_index.0 none first.taken;
       counted = omega (arith, first.counted, none, cut.front-len, cut.back_len);

@@ -6,8 +6,8 @@ use Rattle.merkle.specs.Nodes.{inner}
 use Rattle.merkle.proofs.Inner.{length-inner}
 use Rattle.merkle.proofs.whole.Tree.new.Goals as goal
 
-pub invariant-of-result : goal.invariant-of-result
-invariant-of-result c =
+pub invariant_of-result : goal.invariant_of-result
+invariant_of-result c =
     let d = c.args.digests in
     let filled = c.fill-root.ensures.filled ∙ ap inner c.deref.ensures.value in
     let some : 1 ≤ vec_len d.leaves = omega (arith, d.counted, d.possible, c.if-digests.false) in
