@@ -42,7 +42,7 @@ pub(crate) fn is_known(peers: &[Peer], id: u64) -> bool
 
 // Before which item one of that key stands: the first of a greater key.
 pub(crate) fn place_of<T: Keyed>(items: &[T], new: u64) -> usize
-    ensures value { result ≡ place key new items.now }
+    ensures value { result ≡ place T.key new items.now }
     ensures bound { result ≤ length items.now }
 {
     for (i, item) in items.iter().enumerate() {

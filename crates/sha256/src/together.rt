@@ -66,7 +66,7 @@ fn each_of_four(first: u8, p: &[u8], q: &[u8], r: &[u8], s: &[u8]) -> Result<[[u
 
 // The digests of four byte strings, each a byte and then a part; fastest where the parts have one length.
 pub fn digest_four(first: u8, parts: [&[u8]; 4]) -> Result<[[u8; 32]; 4], TooLong>
-    ensures* fits { λ x. ⌜ is_ok x ≡ each_counts (map (λ x. x.now) parts.entry) ⌝ }
+    ensures fits { is_ok result ≡ each_counts (map (λ part. part.now) parts.entry) }
     ensures value { IfOk result (λ ds. ds ≡ map (λ part. digest (first ∷ part.now)) parts.entry) }
 {
     let [p, q, r, s] = parts;

@@ -2,16 +2,16 @@
 use Rattle.std.proofs.Common.{◌≡◌, ◌+◌, cond, get_or, drop, sym, ap, ◌∙◌}
 use Rattle.script.proofs.Standing.{no_event, stands-next, stands_end}
 use Rattle.script.proofs.links.is_standing.Goals as goal
-use Rattle.script.proofs.links.is_standing.Goals.{then-same-pair, else-same-pair}
+use Rattle.script.proofs.links.is_standing.Goals.{then-same_pair, else-same_pair}
 use Rattle.std.proofs.lemmas.Bool.{cond-true, cond-false}
 use Rattle.script.specs.Sheets.{same_pair, opening, stands}
 
 -- how the link stands after this event
-stands-now : (c : goal.Joined-same-pair) → let e = get_or c.args.past.now c.loop-event.event-index no_event in
-    c.if-same-pair.standing ≡ cond (same_pair e c.args.of) (opening e.what) c.loop-event.standing
-stands-now c = elim c.if-same-pair.branch [
-  | then-same-pair w ↦ w.standing-is ∙ w.is-opening-standing.ensures ∙ sym (cond-true _ _ _ (sym w.if-same-pair.ensures))
-  | else-same-pair w ↦ w.standing-is ∙ sym (cond-false _ _ _ (sym w.if-same-pair.ensures))
+stands-now : (c : goal.Joined-same_pair) → let e = get_or c.args.past.now c.loop-event.event-index no_event in
+    c.if-same_pair.standing ≡ cond (same_pair e c.args.of) (opening e.what) c.loop-event.standing
+stands-now c = elim c.if-same_pair.branch [
+  | then-same_pair w ↦ w.standing-is ∙ w.is_opening-standing.ensures ∙ sym (cond-true _ _ _ (sym w.if-same_pair.ensures))
+  | else-same_pair w ↦ w.standing-is ∙ sym (cond-false _ _ _ (sym w.if-same_pair.ensures))
 ]
 
 pub loop-event-preserved : goal.loop-event-preserved

@@ -8,6 +8,6 @@ use Rattle.std.proofs.lemmas.Bool.{cond-true}
 
 pub returns-then-same : goal.returns-then-same
 returns-then-same c next =
-    ap (λ ws. keyword c.args.wanted.now c.args.expected ws next) c.next-word.ensures ∙
-    keyword-put c.args.wanted.now c.next-word.result.0.now c.args.expected (words c.next-word.result.1.now) next c.requires ∙
+    ap (λ ws. keyword c.args.wanted.now c.args.expected ws next) c.next_word.ensures ∙
+    keyword-put c.args.wanted.now c.next_word.result.0.now c.args.expected (words c.next_word.result.1.now) next c.requires ∙
     cond-true _ _ _ (sym c.if-same.ensures)

@@ -3,8 +3,8 @@ use Rattle.std.proofs.Common.{sym}
 use Rattle.script.proofs.Exits.{handed}
 use Rattle.script.proofs.statement.false_peer.Goals as goal
 
-pub returns-in-err-take-last : goal.returns-in-err-take-last
-returns-in-err-take-last c = handed _ c.from-residual.ensures.1 (c.in-err-take-last.ensures _)
+pub returns-in_err-take_last : goal.returns-in_err-take_last
+returns-in_err-take_last c = handed _ c.from_residual.ensures.1 (c.in_err-take_last.ensures _)
 
 pub returns : goal.returns
-returns c = sym (c.in-ok-take-last.ensures _)
+returns c = sym (c.in_ok-take_last.ensures _)

@@ -3,15 +3,15 @@ use Rattle.std.proofs.Common.{sym, ◌∙◌}
 use Rattle.script.proofs.Exits.{handed}
 use Rattle.script.proofs.statement.link.Goals as goal
 
-pub returns-in-err-a : goal.returns-in-err-a
-returns-in-err-a c = handed _ c.from-residual.ensures.1 (c.in-err-a.ensures _)
+pub returns-in_err-a : goal.returns-in_err-a
+returns-in_err-a c = handed _ c.from_residual.ensures.1 (c.in_err-a.ensures _)
 
-pub returns-in-err-delay : goal.returns-in-err-delay
-returns-in-err-delay c = handed _ c.from-residual-in-err-delay.ensures.1 (c.in-ok-a.ensures _ ∙ c.in-err-delay.ensures _)
+pub returns-in_err-delay : goal.returns-in_err-delay
+returns-in_err-delay c = handed _ c.from_residual-in_err-delay.ensures.1 (c.in_ok-a.ensures _ ∙ c.in_err-delay.ensures _)
 
-pub returns-in-err-take-end : goal.returns-in-err-take-end
-returns-in-err-take-end c =
-    handed _ c.from-residual-in-err-take-end.ensures.1 (c.in-ok-a.ensures _ ∙ c.in-ok-delay.ensures _ ∙ c.in-err-take-end.ensures _)
+pub returns-in_err-take_end : goal.returns-in_err-take_end
+returns-in_err-take_end c =
+    handed _ c.from_residual-in_err-take_end.ensures.1 (c.in_ok-a.ensures _ ∙ c.in_ok-delay.ensures _ ∙ c.in_err-take_end.ensures _)
 
 pub returns : goal.returns
-returns c = sym (c.in-ok-a.ensures _ ∙ c.in-ok-delay.ensures _ ∙ c.in-ok-take-end.ensures _)
+returns c = sym (c.in_ok-a.ensures _ ∙ c.in_ok-delay.ensures _ ∙ c.in_ok-take_end.ensures _)

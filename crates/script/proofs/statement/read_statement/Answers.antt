@@ -14,29 +14,29 @@ with_laws e = record { read = e; numerals = numeral_exact; written = written_rea
 
 pub returns-then-same : goal.returns-then-same
 unfolding is
-returns-then-same c = with_laws (c.peer.ensures ∙ first_says (codes "peer") _ _ _ c.next-word.ensures c.if-same.ensures)
+returns-then-same c = with_laws (c.peer.ensures ∙ first_says (codes "peer") _ _ _ c.next_word.ensures c.if-same.ensures)
 
 pub returns-then-same-2 : goal.returns-then-same-2
 unfolding is
-returns-then-same-2 c = with_laws (c.false-peer.ensures ∙ first_says (codes "false") _ _ _ c.next-word.ensures c.if-same-2.ensures)
+returns-then-same-2 c = with_laws (c.false_peer.ensures ∙ first_says (codes "false") _ _ _ c.next_word.ensures c.if-same-2.ensures)
 
 pub returns-then-same-3 : goal.returns-then-same-3
 unfolding is
-returns-then-same-3 c = with_laws (c.link.ensures ∙ first_says (codes "link") _ _ _ c.next-word.ensures c.if-same-3.ensures)
+returns-then-same-3 c = with_laws (c.link.ensures ∙ first_says (codes "link") _ _ _ c.next_word.ensures c.if-same-3.ensures)
 
 pub returns-then-same-4 : goal.returns-then-same-4
 unfolding is
-returns-then-same-4 c = with_laws (c.break-link.ensures ∙ first_says (codes "break") _ _ _ c.next-word.ensures c.if-same-4.ensures)
+returns-then-same-4 c = with_laws (c.break_link.ensures ∙ first_says (codes "break") _ _ _ c.next_word.ensures c.if-same-4.ensures)
 
 pub returns-then-same-5 : goal.returns-then-same-5
 unfolding is
-returns-then-same-5 c = with_laws (c.rounds.ensures ∙ first_says (codes "rounds") _ _ _ c.next-word.ensures c.if-same-5.ensures)
+returns-then-same-5 c = with_laws (c.rounds.ensures ∙ first_says (codes "rounds") _ _ _ c.next_word.ensures c.if-same-5.ensures)
 
-pub returns-then-is-later : goal.returns-then-is-later
-returns-then-is-later c = with_laws (later_says _ _ _ c.next-word.ensures c.if-is-later.ensures)
+pub returns-then-is_later : goal.returns-then-is_later
+returns-then-is_later c = with_laws (later_says _ _ _ c.next_word.ensures c.if-is_later.ensures)
 
-pub returns-else-is-later : goal.returns-else-is-later
-returns-else-is-later c =
+pub returns-else-is_later : goal.returns-else-is_later
+returns-else-is_later c =
     with_laws
-    (none_says _ _ _ c.next-word.ensures c.if-same.ensures c.if-same-2.ensures c.if-same-3.ensures c.if-same-4.ensures
-    c.if-same-5.ensures c.if-is-later.ensures)
+    (none_says _ _ _ c.next_word.ensures c.if-same.ensures c.if-same-2.ensures c.if-same-3.ensures c.if-same-4.ensures
+    c.if-same-5.ensures c.if-is_later.ensures)

@@ -6,9 +6,9 @@ use Rattle.script.proofs.words.next_line.Goals as goal
 use Rattle.std.proofs.lemmas.List.{take_rest}
 
 pub returns-then-end-text : goal.returns-then-end-text
-returns-then-end-text c = simp sub-zero (last_line c.args.text.now c.line-end-end.result c.line-end-end.ensures.front c.if-end-text.true)
+returns-then-end-text c = simp sub-zero (last_line c.args.text.now c.line_end-end.result c.line_end-end.ensures.front c.if-end-text.true)
 
 pub returns : goal.returns
 returns c =
     simp (sub-zero, take_rest)
-    (first_line c.args.text.now c.line-end-end.result c.line-end-end.ensures.front (omega arith), simp length-drop (omega arith))
+    (first_line c.args.text.now c.line_end-end.result c.line_end-end.ensures.front (omega arith), simp length-drop (omega arith))

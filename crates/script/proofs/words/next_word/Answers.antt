@@ -3,4 +3,4 @@ use Rattle.script.proofs.FirstWord.{first_word}
 use Rattle.script.proofs.words.next_word.Goals as goal
 
 pub returns : goal.returns
-returns c = first_word c.args.line.now c.blanks-from.result c.word-end-end.result c.blanks-from.ensures.front c.word-end-end.ensures.front
+returns c = first_word c.args.line.now c.blanks-from.result c.word_end-end.result c.blanks-from.ensures.front c.word_end-end.ensures.front

@@ -7,7 +7,7 @@ use Rattle.sha256.proofs.block.load.Goals as goal
 pub loop-i-preserved : goal.loop-i-preserved
 loop-i-preserved c =
     let inv = c.loop-i.invariant in
-    (length-set c.loop-i.w c.loop-i.i _ ∙ inv.0, loaded_more _ _ _ _ inv.0 c.requires c.loop-i-test.true inv.1 c.from-be-bytes.ensures)
+    (length-set c.loop-i.w c.loop-i.i _ ∙ inv.0, loaded_more _ _ _ _ inv.0 c.requires c.loop-i-test.true inv.1 c.from_be_bytes.ensures)
 
 pub returns : goal.returns
 returns c =

@@ -11,8 +11,8 @@ loop-i-init c = (refl, refl)
 pub loop-i-preserved : goal.loop-i-preserved
 loop-i-preserved c =
     let inv = c.loop-i.invariant in
-    let copied = c.copy-from-slice.ensures.after in
-    (search (rules, places), bytes-more _ _ _ _ _ _ c.requires inv.0 c.loop-i-test.true (omega arith) inv.1 (copied ∙ c.to-be-bytes-word.ensures))
+    let copied = c.copy_from_slice.ensures.after in
+    (search (rules, places), bytes-more _ _ _ _ _ _ c.requires inv.0 c.loop-i-test.true (omega arith) inv.1 (copied ∙ c.to_be_bytes-word.ensures))
 
 pub returns : goal.returns
 returns c =

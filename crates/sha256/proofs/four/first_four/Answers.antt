@@ -11,7 +11,7 @@ loop-i-preserved c k ws h l s =
     let lt = c.loop-i-test.true in
     let s = c.loop-i.invariant k ws h l s in
     let word = word_at c.args.w.now c.loop-i.i s.low lt s.wide in
-    first_turned_in l lt s (c.round-four-v.ensures k _ word)
+    first_turned_in l lt s (c.round_four-v.ensures k _ word)
 
 pub returns : goal.returns
 returns c k ws h l s =

@@ -4,7 +4,7 @@ use Rattle.sha256.proofs.four.later_four.Goals as goal
 
 pub loop-j-preserved : goal.loop-j-preserved
 loop-j-preserved c k ws h l d =
-    recounted_in (16 * c.loop-j.j + 16) (16 * (c.loop-j.j + 1)) (omega arith) (c.sixteen-four-v.ensures k ws h l (c.loop-j.invariant k ws h l d))
+    recounted_in (16 * c.loop-j.j + 16) (16 * (c.loop-j.j + 1)) (omega arith) (c.sixteen_four-v.ensures k ws h l (c.loop-j.invariant k ws h l d))
 
 pub returns : goal.returns
 returns c k ws h l d =

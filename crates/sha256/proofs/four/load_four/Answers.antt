@@ -12,10 +12,10 @@ loop-i-preserved c =
     let lt = c.loop-i-test.true in (
       length-set w i _ ∙ inv.0,
       wide-set w i _ inv.0 inv.1 refl,
-      loaded_more_in 0 _ w i _ inv.0 c.requires.0 lt inv.2 c.word-at.ensures,
-      loaded_more_in 1 _ w i _ inv.0 c.requires.1.0 lt inv.3 c.word-at-in-loop-i.ensures,
-      loaded_more_in 2 _ w i _ inv.0 c.requires.1.1.0 lt inv.4 c.word-at-in-loop-i-2.ensures,
-      loaded_more_in 3 _ w i _ inv.0 c.requires.1.1.1 lt inv.5 c.word-at-in-loop-i-3.ensures,
+      loaded_more_in 0 _ w i _ inv.0 c.requires.0 lt inv.2 c.word_at.ensures,
+      loaded_more_in 1 _ w i _ inv.0 c.requires.1.0 lt inv.3 c.word_at-in-loop-i.ensures,
+      loaded_more_in 2 _ w i _ inv.0 c.requires.1.1.0 lt inv.4 c.word_at-in-loop-i-2.ensures,
+      loaded_more_in 3 _ w i _ inv.0 c.requires.1.1.1 lt inv.5 c.word_at-in-loop-i-3.ensures,
     )
 
 pub returns : goal.returns

@@ -14,5 +14,5 @@ returns g c i ws h l d =
     let second = word_at w ((g.row.I + 1) % 16) d.low (omega arith) d.wide in
     let tenth = word_at w ((g.row.I + 9) % 16) d.low (omega arith) d.wide in
     let fifteenth = word_at w ((g.row.I + 14) % 16) d.low (omega arith) d.wide in
-    let next = both add (both add (both add (c.small-sigma1.ensures i _ fifteenth) tenth) (c.small-sigma0.ensures i _ second)) oldest in
-    turned_in c.args.t g.row.I l c.told-w c.requires.0 c.requires.1.0 c.requires.1.1 d next (c.round-four.ensures i _ next)
+    let next = both add (both add (both add (c.small_sigma1.ensures i _ fifteenth) tenth) (c.small_sigma0.ensures i _ second)) oldest in
+    turned_in c.args.t g.row.I l c.told-w c.requires.0 c.requires.1.0 c.requires.1.1 d next (c.round_four.ensures i _ next)

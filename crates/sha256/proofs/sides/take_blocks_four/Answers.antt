@@ -6,7 +6,7 @@ pub loop-i-init : goal.loop-i-init
 loop-i-init c =
     let f = c.args.f in
     let even = c.requires.even in
-    let lanes = c.lanes-of-v.ensures in (
+    let lanes = c.lanes_of-v.ensures in (
       after_none f.a _ _ even.0 lanes.zero,
       after_none f.b _ _ even.1.0 lanes.one,
       after_none f.c _ _ even.1.1.0 lanes.two,
@@ -19,7 +19,7 @@ loop-i-preserved c =
     let i = c.loop-i.i in
     let inv = c.loop-i.invariant in
     let even = c.requires.even in
-    let next = c.compressed-four-v.ensures in (
+    let next = c.compressed_four-v.ensures in (
       after_more f.a _ i _ _ _ even.0 (omega arith) inv.0 next.zero,
       after_more f.b _ i _ _ _ even.1.0 (omega arith) inv.1 next.one,
       after_more f.c _ i _ _ _ even.1.1.0 (omega arith) inv.2 next.two,

@@ -5,7 +5,7 @@ use Rattle.sha256.proofs.together.alike_four.Goals as goal
 
 pub returns : goal.returns
 returns c =
-    let taken = c.take-blocks-four-sides.ensures in
+    let taken = c.take_blocks_four-sides.ensures in
     ap₂ ◌∷◌ (c.ended.ensures _ (taken.zero _ c.begun.ensures.taken) ∙ whole c.args.p.now)
     (ap₂ ◌∷◌ (c.ended-2.ensures _ (taken.one _ c.begun-2.ensures.taken) ∙ whole c.args.q.now)
     (ap₂ ◌∷◌ (c.ended-3.ensures _ (taken.two _ c.begun-3.ensures.taken) ∙ whole c.args.r.now)

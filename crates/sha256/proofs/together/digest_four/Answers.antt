@@ -7,8 +7,8 @@ returns-then-n-lt63 c =
     let parts = c.args.parts in
     let l : length parts ≡ 4 = search rules in
     record {
-      fits = four_count _ parts l c.each-of-four.ensures.fits;
-      value = four_digests_if _ parts l c.args.first _ c.each-of-four.ensures.value;
+      fits = four_count _ parts l c.each_of_four.ensures.fits;
+      value = four_digests_if _ parts l c.args.first _ c.each_of_four.ensures.value;
     }
 
 pub returns : goal.returns
@@ -17,5 +17,5 @@ returns c =
     let l : length parts ≡ 4 = search rules in
     record {
       fits = four_count _ parts l (alike_count _ _ _ _ c.if-n-gt-LONGEST.false c.if-q-n.false c.if-r-n.false c.if-s-n.false);
-      value = four_digests _ parts l c.args.first _ c.alike-four.ensures;
+      value = four_digests _ parts l c.args.first _ c.alike_four.ensures;
     }

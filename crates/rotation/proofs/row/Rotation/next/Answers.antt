@@ -10,6 +10,6 @@ use Rattle.swarm.specs.Turns.{turned}
 pub returns : goal.returns
 returns c =
     let cs = meant_all c.args.changes.now in
-    let e = c.change-all.ensures ∙ ap (λ xs. after nobody cs xs) c.turn-holder.ensures.after in
+    let e = c.change_all.ensures ∙ ap (λ xs. after nobody cs xs) c.turn-holder.ensures.after in
     let f = c.turn-holder.ensures.holder in
     record { after = e; holder = f; fair = fair (row c.args.self) _ (taken nobody (turned (row c.args.self)) cs) _ f e }

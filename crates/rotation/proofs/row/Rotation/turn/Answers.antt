@@ -8,20 +8,23 @@ use Rattle.rotation.specs.Rows.{row}
 use Rattle.swarm.proofs.FairTurn.{turn_at}
 use Rattle.swarm.specs.Turns.{changed, first}
 
-rotated : (c : goal.After-ids-3·1) → c.rotate-left.new.self ≡ drop 1 (row c.args.self) ++ take 1 (row c.args.self)
-rotated c = simp sub-zero at c.rotate-left.ensures.after
+rotated : (c : goal.After-ids-3-1) → c.rotate_left.new.self ≡ drop 1 (row c.args.self) ++ take 1 (row c.args.self)
+rotated c = simp sub-zero at c.rotate_left.ensures.after
 
 pub returns-then-count-eq0 : goal.returns-then-count-eq0
 unfolding first
 returns-then-count-eq0 c = rw c.if-count-eq0.true (record { after = refl; holder = refl; fair = λ cs. fair [] [] cs (changed cs []) refl refl; round = turn_at })
 
-pub invariant-of-result : goal.invariant-of-result
-invariant-of-result c =
-    let h = rotated_long c.args.self.count c.args.self.ids c.rotate-left.new.self (omega arith) (rotated c) in
-    (whole_long (c.args.self.count - 0) c.args.self.ids c.rotate-left.new.self (omega arith) (omega arith) ∙ c.args.self.sized, (c.args.self.few, tt))
+pub invariant_of-result : goal.invariant_of-result
+invariant_of-result c =
+    let h = rotated_long c.args.self.count c.args.self.ids c.rotate_left.new.self (omega arith) (rotated c) in
+    record {
+      sized = whole_long (c.args.self.count - 0) c.args.self.ids c.rotate_left.new.self (omega arith) (omega arith) ∙ c.args.self.sized;
+      few = c.args.self.few;
+    }
 
 pub returns : goal.returns
 returns c =
     let holder = first_front c.args.self.count c.args.self.ids (omega arith) (omega arith) in
-    let after = turn_front c.args.self.count c.args.self.ids c.rotate-left.new.self _ (omega arith) (simp sub-zero at c.rotate-left.ensures.after) in
+    let after = turn_front c.args.self.count c.args.self.ids c.rotate_left.new.self _ (omega arith) (simp sub-zero at c.rotate_left.ensures.after) in
     record { after = after; holder = holder; fair = λ cs. fair (row c.args.self) _ cs _ holder (ap (changed cs) after); round = turn_at }

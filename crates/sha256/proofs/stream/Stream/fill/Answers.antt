@@ -6,9 +6,9 @@ use Rattle.sha256.proofs.stream.Stream.fill.Goals.{then-at-part-eq64, else-at-pa
 pub returns : goal.returns
 returns c = record {
   taken = λ m t.
-      let front = c.with-part-rest.ensures.front in
+      let front = c.with_part-rest.ensures.front in
       elim c.if-at-part-eq64.branch [
-        | then-at-part-eq64 w ↦ rw (w.value-is, w.after-blocks-value.ensures.value, after_one _ _ c.with-part-rest.ensures.sized) (taken-whole m _ _ _ _ _ t front w.if-at-part-eq64.true c.with-part-rest.ensures.sized)
+        | then-at-part-eq64 w ↦ rw (w.value-is, w.after_blocks-value.ensures.value, after_one _ _ c.with_part-rest.ensures.sized) (taken-whole m _ _ _ _ _ t front w.if-at-part-eq64.true c.with_part-rest.ensures.sized)
         | else-at-part-eq64 w ↦ rw w.value-is (taken_within m _ _ _ _ _ t front (omega (arith, c.requires.0, w.if-at-part-eq64.false)))
       ];
   counted = search rules;

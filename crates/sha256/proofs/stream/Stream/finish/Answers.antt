@@ -9,5 +9,5 @@ returns c m t =
     let t2 = c.absorb-2.ensures.taken _ t1 in
     let t3 = c.absorb-padded.ensures.taken _ t2 in
     let zeros = zeros_are _ _ (omega (arith, t.counted)) (omega arith) in
-    let bits = c.to-be-bytes-bits.ensures ∙ bits_are (8 * c.args.self.count) ∙ ap (λ (n : ℕ). word_bytes (8 * n / 2 ^ 32) ++ word_bytes (8 * n)) t.counted in
-    c.value-bytes.ensures ∙ ended m _ _ zeros bits t3
+    let bits = c.to_be_bytes-bits.ensures ∙ bits_are (8 * c.args.self.count) ∙ ap (λ (n : ℕ). word_bytes (8 * n / 2 ^ 32) ++ word_bytes (8 * n)) t.counted in
+    c.value_bytes.ensures ∙ ended m _ _ zeros bits t3
