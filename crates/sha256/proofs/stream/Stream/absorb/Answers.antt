@@ -12,5 +12,5 @@ returns c =
           let t = c.take_blocks.ensures.taken _ t in
           let t = c.fill-3.ensures.taken _ t in
           taken_in_three m _ _ _ _ _ two.by_index.0 three.by_index.0 t;
-      counted = omega (arith, two.front-len, two.back_len, three.front_len, three.back_len, c.fill-2.ensures.counted, c.take_blocks.ensures.counted, c.fill-3.ensures.counted);
+      counted = omega (arith, two.front_len, two.back_len, three.front_len, three.back_len, c.fill-2.ensures.counted, c.take_blocks.ensures.counted, c.fill-3.ensures.counted);
     }
