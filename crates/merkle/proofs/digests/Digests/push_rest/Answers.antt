@@ -10,7 +10,7 @@ returns-then-not-is_empty c =
     let second = c.push.ensures in
     record {
       taken = both-taken _ _ _ _ _ _ cut.by_index.0 first.taken second.taken;
-      counted = omega (arith, first.counted, second.counted, cut.front-len, cut.back_len);
+      counted = omega (arith, first.counted, second.counted, cut.front_len, cut.back_len);
       same = second.same ∙ first.same;
     }
 
@@ -21,6 +21,6 @@ returns-else-not-is_empty c =
     let none : length c.split_at.result.1.now ≡ 0 = eqb-true _ _ (sym c.if-not-is_empty.ensures) in
     record {
       taken = front_taken _ _ _ _ _ cut.by_index.0 none first.taken;
-      counted = omega (arith, first.counted, none, cut.front-len, cut.back_len);
+      counted = omega (arith, first.counted, none, cut.front_len, cut.back_len);
       same = first.same;
     }
