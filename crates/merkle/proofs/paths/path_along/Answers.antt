@@ -24,62 +24,62 @@ nodes_back row right {above} {k} a two e r = cc (take_rest above k, inner_back r
 pub loop-row-init : goal.loop-row-init
 loop-row-init c = (walk_begins c.none-found.result c.args.m c.args.leaves.now c.none-found.ensures c.requires.0 c.requires.1.0, c.requires.1.1)
 
-pub split_at-requires-in-loop-row : goal.split_at-requires-in-loop-row
-split_at-requires-in-loop-row c = omega (arith, within c.loop-row.row.now c.loop-row.invariant.1 c.loop-row-test.true c.split_at.ensures.value)
+pub split_at-requires : goal.split_at-requires
+split_at-requires c = omega (arith, within c.loop-row.row.now c.loop-row.invariant.1 c.loop-row-test.true c.split-at.ensures.value)
 
 pub slice_bounds-top_of-count : goal.slice_bounds-top_of-count
-slice_bounds-top_of-count c = omega (arith, within c.loop-row.row.now c.loop-row.invariant.1 c.loop-row-test.true c.split_at.ensures.value)
+slice_bounds-top_of-count c = omega (arith, within c.loop-row.row.now c.loop-row.invariant.1 c.loop-row-test.true c.split-at.ensures.value)
 
 pub slice_bounds-top_of-start : goal.slice_bounds-top_of-start
-slice_bounds-top_of-start c = omega (arith, within c.loop-row.row.now c.loop-row.invariant.1 c.loop-row-test.true c.split_at.ensures.value)
+slice_bounds-top_of-start c = omega (arith, within c.loop-row.row.now c.loop-row.invariant.1 c.loop-row-test.true c.split-at.ensures.value)
 
 pub top_of-requires : goal.top_of-requires
 top_of-requires c =
-    let w = within c.loop-row.row.now c.loop-row.invariant.1 c.loop-row-test.true c.split_at.ensures.value in
-    (omega arith, (omega (arith, c.loop-row.invariant.0), nodes_back c.loop-row.row.now _ c.loop-row.invariant.1 c.loop-row-test.true c.split_at.ensures.value c.split_at-in-loop-row.ensures.back))
+    let w = within c.loop-row.row.now c.loop-row.invariant.1 c.loop-row-test.true c.split-at.ensures.value in
+    (omega arith, (omega (arith, c.loop-row.invariant.0), nodes_back c.loop-row.row.now _ c.loop-row.invariant.1 c.loop-row-test.true c.split-at.ensures.value c.split_at.ensures.back))
 
 pub with-next-requires : goal.with-next-requires
 with-next-requires c = walk_room c.loop-row.invariant.0 c.loop-row-test.true
 
 pub slice_bounds-above-end : goal.slice_bounds-above-end
-slice_bounds-above-end c = omega (arith, within c.loop-row.row.now c.loop-row.invariant.1 c.loop-row-test.true c.split_at.ensures.value)
+slice_bounds-above-end c = omega (arith, within c.loop-row.row.now c.loop-row.invariant.1 c.loop-row-test.true c.split-at.ensures.value)
 
 pub loop-row-smaller-then-place-at : goal.loop-row-smaller-then-place-at
-loop-row-smaller-then-place-at c = omega (arith, within c.loop-row.row.now c.loop-row.invariant.1 c.loop-row-test.true c.split_at.ensures.value)
+loop-row-smaller-then-place-at c = omega (arith, within c.loop-row.row.now c.loop-row.invariant.1 c.loop-row-test.true c.split-at.ensures.value)
 
 pub loop-row-preserved-then-place-at : goal.loop-row-preserved-then-place-at
 loop-row-preserved-then-place-at c = (
-  walk_front c.loop-row.invariant.0 c.loop-row-test.true c.split_at.ensures.value c.if-place-at.true c.split_at-in-loop-row.ensures.front (cc),
-  nodes_front c.loop-row.row.now _ c.loop-row.invariant.1 c.loop-row-test.true c.split_at.ensures.value c.split_at-in-loop-row.ensures.front,
+  walk_front c.loop-row.invariant.0 c.loop-row-test.true c.split-at.ensures.value c.if-place-at.true c.split_at.ensures.front (cc),
+  nodes_front c.loop-row.row.now _ c.loop-row.invariant.1 c.loop-row-test.true c.split-at.ensures.value c.split_at.ensures.front,
 )
 
 pub overflow_sub-at : goal.overflow_sub-at
-overflow_sub-at c = omega (arith, within c.loop-row.row.now c.loop-row.invariant.1 c.loop-row-test.true c.split_at.ensures.value)
+overflow_sub-at c = omega (arith, within c.loop-row.row.now c.loop-row.invariant.1 c.loop-row-test.true c.split-at.ensures.value)
 
 pub slice_bounds-top_of-end-else-place-at : goal.slice_bounds-top_of-end-else-place-at
-slice_bounds-top_of-end-else-place-at c = omega (arith, within c.loop-row.row.now c.loop-row.invariant.1 c.loop-row-test.true c.split_at.ensures.value)
+slice_bounds-top_of-end-else-place-at c = omega (arith, within c.loop-row.row.now c.loop-row.invariant.1 c.loop-row-test.true c.split-at.ensures.value)
 
 pub top_of-requires-else-place-at : goal.top_of-requires-else-place-at
 top_of-requires-else-place-at c =
-    let w = within c.loop-row.row.now c.loop-row.invariant.1 c.loop-row-test.true c.split_at.ensures.value in
-    (omega arith, (omega (arith, c.loop-row.invariant.0), nodes_front c.loop-row.row.now _ c.loop-row.invariant.1 c.loop-row-test.true c.split_at.ensures.value c.split_at-in-loop-row.ensures.front))
+    let w = within c.loop-row.row.now c.loop-row.invariant.1 c.loop-row-test.true c.split-at.ensures.value in
+    (omega arith, (omega (arith, c.loop-row.invariant.0), nodes_front c.loop-row.row.now _ c.loop-row.invariant.1 c.loop-row-test.true c.split-at.ensures.value c.split_at.ensures.front))
 
 pub with-next-requires-else-place-at : goal.with-next-requires-else-place-at
 with-next-requires-else-place-at c = walk_room c.loop-row.invariant.0 c.loop-row-test.true
 
 pub slice_bounds-above-count-else-place-at : goal.slice_bounds-above-count-else-place-at
-slice_bounds-above-count-else-place-at c = omega (arith, within c.loop-row.row.now c.loop-row.invariant.1 c.loop-row-test.true c.split_at.ensures.value)
+slice_bounds-above-count-else-place-at c = omega (arith, within c.loop-row.row.now c.loop-row.invariant.1 c.loop-row-test.true c.split-at.ensures.value)
 
 pub slice_bounds-above-start-else-place-at : goal.slice_bounds-above-start-else-place-at
-slice_bounds-above-start-else-place-at c = omega (arith, within c.loop-row.row.now c.loop-row.invariant.1 c.loop-row-test.true c.split_at.ensures.value)
+slice_bounds-above-start-else-place-at c = omega (arith, within c.loop-row.row.now c.loop-row.invariant.1 c.loop-row-test.true c.split-at.ensures.value)
 
 pub loop-row-smaller : goal.loop-row-smaller
-loop-row-smaller c = omega (arith, within c.loop-row.row.now c.loop-row.invariant.1 c.loop-row-test.true c.split_at.ensures.value)
+loop-row-smaller c = omega (arith, within c.loop-row.row.now c.loop-row.invariant.1 c.loop-row-test.true c.split-at.ensures.value)
 
 pub loop-row-preserved : goal.loop-row-preserved
 loop-row-preserved c = (
-  walk_back c.loop-row.invariant.0 c.loop-row-test.true c.split_at.ensures.value c.if-place-at.false c.split_at-in-loop-row.ensures.back (cc),
-  nodes_back c.loop-row.row.now _ c.loop-row.invariant.1 c.loop-row-test.true c.split_at.ensures.value c.split_at-in-loop-row.ensures.back,
+  walk_back c.loop-row.invariant.0 c.loop-row-test.true c.split-at.ensures.value c.if-place-at.false c.split_at.ensures.back (cc),
+  nodes_back c.loop-row.row.now _ c.loop-row.invariant.1 c.loop-row-test.true c.split-at.ensures.value c.split_at.ensures.back,
 )
 
 pub returns : goal.returns

@@ -11,8 +11,8 @@ returns-then-leaves-eq1 t c =
     let one = c.if-leaves-eq1.true in
     record { top = root_alone c.args.leaves.now one; filled = nil_from_length c.args.nodes.now (omega arith) ∙ sym (inner_alone c.args.leaves.now one) }
 
-pub split_at-requires-2 : goal.split_at-requires-2
-split_at-requires-2 t c = omega (arith, cut_between (length c.args.leaves.now) (omega arith))
+pub split_at-requires : goal.split_at-requires
+split_at-requires t c = omega (arith, cut_between (length c.args.leaves.now) (omega arith))
 
 pub overflow_sub-at : goal.overflow_sub-at
 overflow_sub-at t c = omega (arith, cut_between (length c.args.leaves.now) (omega arith))
@@ -51,9 +51,9 @@ returns t c =
     let top : c.node_over-top.result ≡ root c.args.leaves.now = cc (root_of_halves c.args.leaves.now (omega arith)) in
     record {
       top = top;
-      filled = inner-written c.args.leaves.now c.args.nodes.now c.fill-top_left.new.nodes c.fill-top_right.new.nodes c.split_at.result _ _ _
+      filled = inner-written c.args.leaves.now c.args.nodes.now c.fill-top_left.new.nodes c.fill-top_right.new.nodes c.split-at.result _ _ _
           (omega arith)
-          c.split_at.ensures.value
+          c.split-at.ensures.value
           (omega arith)
           (omega arith)
           (simp (length-append, length-drop) (omega arith))

@@ -6,7 +6,10 @@ pub invariant_of-result : goal.invariant_of-result
 invariant_of-result c =
     let p = c.args.self in
     let l = simp (length-take, length-drop) at c.copy_from_slice.ensures.len in
-    (simp (length-append, length-take, length-drop) (omega (arith, p.sized, l)), (omega arith, tt))
+    record {
+      sized = simp (length-append, length-take, length-drop) (omega (arith, p.sized, l));
+      few = omega arith;
+    }
 
 pub returns : goal.returns
 returns c =
