@@ -1,5 +1,6 @@
 -- Each way out is one of the ways in which a piece and its path can lead to the root or not.
 use Rattle.std.proofs.Common.{sym, ◌∙◌}
+use Rattle.std.proofs.lemmas.Bool.Decides.{Decides-eqb}
 use Rattle.std.proofs.lemmas.Slice.Eq.{slice_eq-Decides}
 use Rattle.bytetree.proofs.Collisions.{collision_or_right}
 use Rattle.bytetree.proofs.Digests.{own_leads}
@@ -31,7 +32,7 @@ pub returns-in-Some-folded : goal.returns-in-Some-folded
 returns-in-Some-folded c = record {
   exact = leads-to c.pieces.ensures.counted c.leaf_of.ensures c.eq.result
       c.in-Some.ensures.0 (c.if-piece-length.false ∙ c.in-Some.ensures.1) c.if-path-ne0.false c.in-Some-folded.ensures
-      (rw c.root.ensures at (slice_eq-Decides c.in-Some-folded.top c.root.result c.eq.result c.eq.ensures));
+      (rw c.root.ensures at (slice_eq-Decides Decides-eqb c.in-Some-folded.top c.root.result c.eq.result c.eq.ensures));
   right = collision_or_right;
   own = own_leads;
   image = image_of_terms;

@@ -13,8 +13,8 @@ invariant_of-result c =
     let some : 1 ≤ vec_len d.leaves = omega (arith, d.counted, d.possible, c.if-digests.false) in
     let few : vec_len d.leaves ≤ 65536 = omega (arith, d.counted, d.possible, c.if-digests.false) in
     let below : length (inner (vec_items d.leaves)) + 1 ≡ vec_len d.leaves = length-inner (vec_items d.leaves) (omega (arith, some, d.leaves.ok.0)) ∙ sym d.leaves.ok.0 in
-    let count : length c.fill-root.new.nodes ≡ c.in-Ok.nodes.len = omega (arith, ap length filled, below, c.len.ensures, c.in-Ok.ensures.made) in
-    (some, (few, (take_at _ _ _ count ∙ filled, tt)))
+    let count : length c.fill-root.new.nodes ≡ c.in-Ok.nodes.len = omega (arith, ap length filled, below, c.len.ensures, c.in-Ok.ensures.len) in
+    record { some = some; few = few; above = take_at _ _ _ count ∙ filled }
 
 pub returns : goal.returns
 returns c =
