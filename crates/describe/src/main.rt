@@ -12,11 +12,21 @@ use comparing::compare;
 use making::make;
 use showing::show;
 use std::env;
+use std::process::ExitCode;
 
-fn main(rt: HostRuntime) -> anyhow::Result<()> {
-    let words: Vec<String> = env::args(&rt)?.skip(1).collect(rt.alloc())?;
+// Ends with status 1 where something was wrong, once that was said.
+fn main(rt: HostRuntime) -> ExitCode {
+    match begin(&rt) {
+        Ok(()) => ExitCode::SUCCESS,
+        Err(_) => ExitCode::FAILURE,
+    }
+}
+
+// Takes the words of the command line.
+fn begin(rt: &HostRuntime) -> anyhow::Result<()> {
+    let words: Vec<String> = env::args(rt)?.skip(1).collect(rt.alloc())?;
     let (verbose, words) = without_flag(words.as_slice());
-    run(&rt, verbose, words)
+    run(rt, verbose, words)
 }
 
 // The arguments after `-v`, if that is the first.

@@ -2,6 +2,7 @@
 use crate::reading::{digest_file, fail};
 use anyhow::anyhow;
 use merkle::{Digests, Tree};
+use std::alloc::Global;
 use std::fs;
 use std::fs::File;
 use std::io::{BufWriter, Write};
@@ -120,7 +121,7 @@ fn finish_both<'a>(
     if write_first(tree, name, first).is_err() {
         return Err(description.place);
     }
-    if write_records(tree, second).is_err() {
+    if write_records(rt.alloc(), tree, second).is_err() {
         return Err(records.place);
     }
     if fs::rename(rt, records.beside, records.place).is_err() {
@@ -153,8 +154,8 @@ fn write_first(tree: &Tree, name: &[u8], out: File) -> anyhow::Result<()> {
 }
 
 // The record of each piece, block after block.
-fn write_records(tree: &Tree, out: File) -> anyhow::Result<()> {
-    let mut out = BufWriter::new(out);
+fn write_records(heap: Global, tree: &Tree, out: File) -> anyhow::Result<()> {
+    let mut out = BufWriter::new(heap, out)?;
     for m in 0..tree.numbers().pieces() {
         let (Some(digest), Some(path)) = (tree.leaf(m), tree.path(m)) else {
             return Err(anyhow!("no record"));

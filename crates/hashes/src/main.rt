@@ -6,16 +6,26 @@ use merkle::Digests;
 use sha256::Hasher;
 use std::fs::File;
 use std::io::Read;
+use std::process::ExitCode;
 use std::{env, fs, io};
 
 // How many bytes are read at once: four pieces.
 const AT_ONCE: usize = 65_536;
 
-fn main(rt: HostRuntime) -> anyhow::Result<()> {
-    let words: Vec<String> = env::args(&rt)?.skip(1).collect(rt.alloc())?;
+// Ends with status 1 where something was wrong, once that was said.
+fn main(rt: HostRuntime) -> ExitCode {
+    match run(&rt) {
+        Ok(()) => ExitCode::SUCCESS,
+        Err(_) => ExitCode::FAILURE,
+    }
+}
+
+// Does what the command line asks for.
+fn run(rt: &HostRuntime) -> anyhow::Result<()> {
+    let words: Vec<String> = env::args(rt)?.skip(1).collect(rt.alloc())?;
     match words.as_slice() {
-        [what, path] if what.as_str() == "stream" => stream(&rt, path.as_str()),
-        [what, path] if what.as_str() == "root" => root(&rt, path.as_str()),
+        [what, path] if what.as_str() == "stream" => stream(rt, path.as_str()),
+        [what, path] if what.as_str() == "root" => root(rt, path.as_str()),
         _ => {
             eprintln!(rt; "hashes: expected stream FILE or root FILE")?;
             Err(anyhow!("bad arguments"))

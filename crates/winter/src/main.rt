@@ -4,6 +4,7 @@
 use anyhow::anyhow;
 use arena::{Node, begin_round, seat_all};
 use script::{ReadFault, Script, read};
+use std::process::ExitCode;
 use std::{env, fs};
 
 // A script that was read, with the name that is printed for it.
@@ -13,11 +14,20 @@ struct Named {
     script: Script,
 }
 
-fn main(rt: HostRuntime) -> anyhow::Result<()> {
-    for named in read_all(&rt)? {
+// Ends with status 1 where something was wrong, once that was said.
+fn main(rt: HostRuntime) -> ExitCode {
+    match play_all(&rt) {
+        Ok(()) => ExitCode::SUCCESS,
+        Err(_) => ExitCode::FAILURE,
+    }
+}
+
+// Plays all scripts, one after the other.
+fn play_all(rt: &HostRuntime) -> anyhow::Result<()> {
+    for named in read_all(rt)? {
         rt.print("winter ")?;
         rt.println(named.name.as_str())?;
-        play(&rt, &named.script)?;
+        play(rt, &named.script)?;
     }
     Ok(())
 }
