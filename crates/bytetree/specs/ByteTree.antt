@@ -1,5 +1,5 @@
 -- The tree over the pieces of a file as byte strings, the path of a piece, and what a path leads to. Assumes nothing.
-use Rattle.std.specs.Prelude.{◌≡◌, ℕ, zero, suc, ◌+◌, ◌-◌, ◌*◌, ◌/◌, ◌<◌, cond, ◌&&◌, List, [], ◌∷◌, ◌++◌, map, length, take, drop, Some, None, Option, ◌==◌, nat_lt}
+use Rattle.std.specs.Prelude.{◌≡◌, ℕ, zero, suc, ◌-◌, ◌*◌, ◌/◌, ◌<◌, cond, ◌&&◌, List, [], ◌∷◌, ◌++◌, map, length, take, drop, Some, None, Option, ◌==◌, nat_lt}
 use Rattle.sha256.specs.Sha256.{digest}
 use Rattle.swarm.specs.Tree.{cut}
 use Rattle.bytetree.specs.Pieces.{parts, piece_count, piece_length, pieces}

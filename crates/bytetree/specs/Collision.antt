@@ -1,5 +1,5 @@
 -- Whatever leads to a file's root is the file's, or hands over two byte strings of one digest: which two, and what is claimed of them. Assumes nothing.
-use Rattle.std.specs.Prelude.{◌≡◌, ℕ, ◌+◌, ◌-◌, ◌<◌, Bool, true, false, cond, ◌&&◌, ◌≢◌, List, [], ◌∷◌, ◌++◌, map, length, take, drop, Some, None, Option, ◌==◌, nat_lt, slice_index_or}
+use Rattle.std.specs.Prelude.{◌≡◌, ℕ, ◌-◌, ◌<◌, Bool, true, false, cond, ◌&&◌, ◌≢◌, List, [], ◌∷◌, ◌++◌, map, length, take, drop, Some, None, Option, ◌==◌, nat_lt, slice_index_or}
 use Rattle.std.specs.List.{AllByRecursion as All}
 use Rattle.sha256.specs.Sha256.{digest, Message}
 use Rattle.swarm.specs.Tree.{cut}

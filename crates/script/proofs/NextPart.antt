@@ -3,7 +3,6 @@ use Rattle.std.proofs.Common.{◌≡◌, ℕ, ◌<◌, false, cond, eqb, List, [
 use Rattle.script.specs.Statements.{Read, is, number, keyword, delay}
 use Rattle.script.specs.Words.{put}
 use Rattle.script.specs.declared.statement.Expected.{Expected}
-use Rattle.script.specs.declared.statement.Expected.TheVariants as Expected
 use Rattle.std.proofs.lemmas.Bool.{false≢true}
 
 pub keyword-put : (k w : List ℕ) (e : Expected) (ws : List (List ℕ)) (next : List (List ℕ) → Read) → 0 < length k → keyword k e (put w ws) next ≡ cond (is w k) (next ws) (Err e)

@@ -6,9 +6,7 @@ use Rattle.script.specs.Laws.{in_range, Spells, ReadWritten}
 use Rattle.script.specs.Statements.{Read, is, number, most, keyword, ended, pair, delay, later, most_rounds}
 use Rattle.script.specs.Words.{numeral}
 use Rattle.script.specs.declared.statement.Expected.{Expected}
-use Rattle.script.specs.declared.statement.Expected.TheVariants as Expected
 use Rattle.script.specs.declared.statement.Statement.{Statement}
-use Rattle.script.specs.declared.statement.Statement.TheVariants as Statement
 use Rattle.std.proofs.lemmas.Bool.{and_from}
 
 err_ok : (e : Expected) (s : Statement) → ◌≡◌ {A = Read} (Err e) (Ok s) → ⊥

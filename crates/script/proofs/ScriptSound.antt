@@ -9,9 +9,7 @@ use Rattle.script.specs.declared.sheet.BadLine.{BadLine}
 use Rattle.script.specs.declared.sheet.Event.{Event}
 use Rattle.script.specs.declared.sheet.Peer.{Peer}
 use Rattle.script.specs.declared.statement.Expected.{Expected}
-use Rattle.script.specs.declared.statement.Expected.TheVariants as Expected
 use Rattle.script.specs.declared.statement.Statement.{Statement}
-use Rattle.script.specs.declared.statement.Statement.TheVariants as Statement
 use Rattle.std.proofs.ByRecursion.{All-weaker, all_from_every}
 use Rattle.std.proofs.lemmas.Bool.{cond_both, and_parts}
 use Rattle.std.specs.List.{AllByRecursion as All}

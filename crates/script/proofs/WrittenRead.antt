@@ -5,7 +5,6 @@ use Rattle.script.specs.Laws.{in_range, proper, written, short, WrittenRead}
 use Rattle.script.specs.Statements.{Read, is, most, number, ended, pair, delay, statement, most_rounds}
 use Rattle.script.specs.Words.{numeral}
 use Rattle.script.specs.declared.statement.Expected.{Expected}
-use Rattle.script.specs.declared.statement.Expected.TheVariants as Expected
 use Rattle.script.specs.declared.statement.Statement.{Statement}
 use Rattle.script.specs.declared.statement.Statement.TheVariants.{Peer, False, Link, Break, Rounds}
 use Rattle.std.proofs.lemmas.Bool.{and_parts, cond-false, cond-true, eqb-true, leb-true}

@@ -14,9 +14,7 @@ use Rattle.script.specs.declared.sheet.Refusal.{Refusal}
 use Rattle.script.specs.declared.sheet.Refusal.TheVariants.{Bad, NoMemory}
 use Rattle.script.specs.declared.sheet.Script.{Script}
 use Rattle.script.specs.declared.statement.Expected.{Expected}
-use Rattle.script.specs.declared.statement.Expected.TheVariants as Expected
 use Rattle.script.specs.declared.statement.Statement.{Statement}
-use Rattle.script.specs.declared.statement.Statement.TheVariants as Statement
 use Rattle.std.specs.List.{insert}
 
 -- peers by their numbers, events by their ticks and lines, and how many rounds, once that is said

@@ -1,5 +1,5 @@
 -- A stream that takes in a part has taken in that part behind the others.
-use Rattle.std.proofs.Common.{◌≡◌, ℕ, zero, suc, ◌+◌, ◌-◌, ◌*◌, ◌/◌, ◌%◌, ◌<◌, ◌≤◌, List, ◌++◌, length, take, drop, sym, refl, ap, ◌∙◌, subst, ap₂, add-one, arith}
+use Rattle.std.proofs.Common.{◌≡◌, ℕ, zero, suc, ◌+◌, ◌*◌, ◌/◌, ◌%◌, ◌<◌, ◌≤◌, List, ◌++◌, length, take, drop, sym, refl, ap, ◌∙◌, subst, ap₂, add-one, arith}
 use Rattle.std.proofs.lemmas.List.{length-append, drop-append-le, take_all, drop_all, drop_at, drop-drop, append_assoc}
 use Rattle.sha256.specs.Sha256.{hashed, compress, words, block}
 use Rattle.sha256.specs.Streams.{Taken, after}

@@ -1,6 +1,5 @@
 -- What the code of a peer must do, seen over the states of its choice: what it does at each event, and what it answers and sends. A peer's code has to give a term of this. Assumes nothing.
-use Rattle.std.specs.Prelude.{◌≡◌, ℕ, zero, suc, ◌+◌, ◌*◌, ◌/◌, ◌%◌, ◌<◌, ◌≤◌, Bool, true, false, cond, not, ◌&&◌, ◌||◌, T, List, [], ◌∷◌, ◌++◌, length, ◌≢◌, nat_lt, slice_index, slice_index_or}
-use mathlib.Core.List.{Memᴰ}
+use Rattle.std.specs.Prelude.{◌≡◌, ℕ, ◌<◌, ◌≤◌, Bool, true, false, cond, not, ◌&&◌, ◌||◌, List, [], ◌∷◌, length, ◌≢◌, nat_lt, slice_index, slice_index_or}
 use Rattle.swarm.specs.Tree.{Dig, way}
 use Rattle.swarm.specs.Turns.{Change, Joins, Leaves, is_in, changed, turned, next, no_leave}
 use Rattle.swarm.specs.Swarm.{Rules, size, fits}

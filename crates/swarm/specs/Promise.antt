@@ -1,9 +1,9 @@
 -- What is promised of the whole, and of its parts. Each is a type; a proof of the type is the theorem. Assumes nothing.
-use Rattle.std.specs.Prelude.{◌≡◌, ℕ, zero, suc, ◌+◌, ◌-◌, ◌*◌, ◌/◌, ◌%◌, ◌<◌, ◌≤◌, Bool, true, false, cond, not, ◌&&◌, ◌||◌, T, List, [], ◌∷◌, ◌++◌, length, slice_index_or}
+use Rattle.std.specs.Prelude.{◌≡◌, ℕ, suc, ◌+◌, ◌*◌, ◌<◌, ◌≤◌, Bool, true, false, ◌&&◌, List, length, slice_index_or}
 use mathlib.Core.List.{Memᴰ}
 use Rattle.swarm.specs.Tree.{Dig, Leaf, top, way, leads, Is}
 use Rattle.swarm.specs.Turns.{Change, is_in, stays, longest, turns}
-use Rattle.swarm.specs.Swarm.{Rules, size, World, Piece, Missing, Has, Word, comes, Reach, fits, Round, Rounds}
+use Rattle.swarm.specs.Swarm.{Rules, size, World, Has, Word, comes, Reach, fits, Rounds}
 
 -- 1. A way leads from a piece to the top just if it is the piece at that place, and there is one for each.
 abbrev pub WayExact : Type 0

@@ -1,6 +1,5 @@
 -- Peers that bring each other the pieces of a file, some of which send what they like; what each takes and whom it shuts out; and rounds. Assumes nothing.
-use Rattle.std.specs.Prelude.{◌≡◌, ℕ, zero, suc, ◌+◌, ◌-◌, ◌*◌, ◌/◌, ◌%◌, ◌<◌, ◌≤◌, Bool, true, false, cond, not, ◌&&◌, ◌||◌, T, List, [], ◌∷◌, ◌++◌, length, ◌==◌, nat_lt, slice_index_or}
-use mathlib.Core.List.{Memᴰ}
+use Rattle.std.specs.Prelude.{◌≡◌, ℕ, suc, ◌<◌, Bool, true, false, cond, ◌&&◌, List, length, ◌==◌, nat_lt, slice_index_or}
 use Rattle.swarm.specs.Tree.{Dig, Leaf, Node, Maybe, None, Is, top, way, leads}
 
 -- peers: how many there are; true ones keep to the rules; friends: which true ones each is joined with; turn: who has the turn at a peer in a round; file: its pieces

@@ -1,6 +1,5 @@
 -- Digests along a tree over the pieces of a file, and ways from a piece to the top. Digests are terms: two of them are the same only if what they are of is. Assumes nothing.
-use Rattle.std.specs.Prelude.{◌≡◌, ℕ, zero, suc, ◌+◌, ◌-◌, ◌*◌, ◌/◌, ◌%◌, ◌<◌, ◌≤◌, Bool, true, false, cond, not, ◌&&◌, ◌||◌, T, List, [], ◌∷◌, ◌++◌, length, ◌==◌, nat_lt}
-use mathlib.Core.List.{Memᴰ}
+use Rattle.std.specs.Prelude.{ℕ, zero, suc, ◌+◌, ◌-◌, cond, ◌&&◌, List, [], ◌∷◌, length, ◌==◌, nat_lt}
 
 pub data Dig : Type 0 where
   NoLeaf : Dig
