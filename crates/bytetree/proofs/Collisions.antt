@@ -1,6 +1,6 @@
 -- Whatever leads to a file's root is the file's own piece by its own path, or two byte strings of one digest are found on the way.
 use Rattle.std.proofs.Common.{◌≡◌, ℕ, ◌-◌, ◌*◌, ◌/◌, ◌^◌, ◌<◌, ◌≤◌, true, false, eqb, ◌≢◌, ◌⊎◌, List, [], ◌∷◌, ◌++◌, map, length, get_or, take, drop, Some, None, Option, sym, refl, ap, ◌∙◌, subst, inl, inr, arith, length-append}
-use Rattle.std.specs.List.{AllByRecursion as All}
+use Rattle.std.specs.List.{AllByRecursion}
 use Rattle.std.proofs.lemmas.List.{take_at, drop_at, take-map, drop-map, length-map}
 use Rattle.std.proofs.ByRecursion.{All-append, All-take, All-drop}
 use Rattle.std.proofs.lemmas.Bool.{cases_lt, cond_both, cond-true, cond-false, lt-ltb, le-ltb, both_ways, eq-eqb, eqb-true, and_from, and_parts}
@@ -33,7 +33,7 @@ same_false xs ys e q = both_ways (same xs ys) e (rw (← q) (same_self xs))
 
 -- bytes, and few enough to be hashed as a leaf
 record Small (p : List ℕ) : Type 0 where
-  bytes : All (λ b. b < 256) p
+  bytes : AllByRecursion (λ b. b < 256) p
   short : length p < 2 ^ 60
 
 leaf_message : (p : List ℕ) → Small p → Message (0 ∷ p)
@@ -86,7 +86,7 @@ RowVerdict xs m piece ps (Some (Two x y)) = Collision x y
 
 -- whatever leads to the root of a row by this path has that said of it
 abbrev OnRow : List (List ℕ) → Type 0
-OnRow ps = (xs : List (List ℕ)) (m : ℕ) (piece : List ℕ) → All Small xs → Small piece → All IsDigest ps →
+OnRow ps = (xs : List (List ℕ)) (m : ℕ) (piece : List ℕ) → AllByRecursion Small xs → Small piece → AllByRecursion IsDigest ps →
     folds (length xs) m (leaf piece) ps ≡ Some (root (map leaf xs)) → RowVerdict xs m piece ps (clash xs m piece ps)
 
 at_end : OnRow []
@@ -178,16 +178,16 @@ one_more p ps below xs m piece small s ds e = go (other_folds _ _ _ p _ ps e) (c
         (λ a b. verdict_back xs m piece p ps two h a further (below (back xs) i piece (All-drop Small (cut (length xs)) xs small) s ds.1 (cc (l, b, r.1)))))
 
 -- A piece and a path that lead to the root of a row are the piece and the path of that place, or two strings of one digest are found.
-row_collision_or_right : (xs : List (List ℕ)) (m : ℕ) (piece : List ℕ) (ps : List (List ℕ)) → All Small xs → Small piece → All IsDigest ps →
+row_collision_or_right : (xs : List (List ℕ)) (m : ℕ) (piece : List ℕ) (ps : List (List ℕ)) → AllByRecursion Small xs → Small piece → AllByRecursion IsDigest ps →
     folds (length xs) m (leaf piece) ps ≡ Some (root (map leaf xs)) → RowVerdict xs m piece ps (clash xs m piece ps)
 row_collision_or_right xs m piece [] = at_end xs m piece
 row_collision_or_right xs m piece (p ∷ ps) = one_more p ps (λ ys i q. row_collision_or_right ys i q ps) xs m piece
 
-all_small : (xs : List (List ℕ)) → All (All (λ b. b < 256)) xs → All (λ x. length x ≤ 16384) xs → All Small xs
+all_small : (xs : List (List ℕ)) → AllByRecursion (AllByRecursion (λ b. b < 256)) xs → AllByRecursion (λ x. length x ≤ 16384) xs → AllByRecursion Small xs
 all_small [] b l = tt
 all_small (x ∷ xs) b l = (record { bytes = b.0; short = omega (arith, l.0) }, all_small xs b.1 l.1)
 
-all-digest : (ds : List (List ℕ)) → All (All (λ b. b < 256)) ds → All (λ d. length d ≡ 32) ds → All IsDigest ds
+all-digest : (ds : List (List ℕ)) → AllByRecursion (AllByRecursion (λ b. b < 256)) ds → AllByRecursion (λ d. length d ≡ 32) ds → AllByRecursion IsDigest ds
 all-digest [] b l = tt
 all-digest (d ∷ ds) b l = (record { bytes = b.0; long = l.0 }, all-digest ds b.1 l.1)
 

@@ -1,6 +1,6 @@
 -- The roots and paths over leaf digests are 32 bytes each, and a file's piece by its path, as they are sent, lead to the file's root.
 use Rattle.std.proofs.Common.{◌≡◌, ℕ, ◌-◌, ◌<◌, ◌≤◌, ◌⊎◌, List, [], ◌∷◌, map, length, sym, subst, inl, inr, arith}
-use Rattle.std.specs.List.{AllByRecursion as All}
+use Rattle.std.specs.List.{AllByRecursion}
 use Rattle.std.proofs.lemmas.List.{length-map, get_or-map}
 use Rattle.std.proofs.ByRecursion.{All-take, All-drop, All-weaker}
 use Rattle.std.proofs.lemmas.Bool.{cases_lt}
@@ -17,7 +17,7 @@ use Rattle.bytetree.proofs.Files.{pieces_add_up, digests_join, length-joined}
 
 -- bytes, as many as a digest has
 pub record IsDigest (d : List ℕ) : Type 0 where
-  pub bytes : All (λ b. b < 256) d
+  pub bytes : AllByRecursion (λ b. b < 256) d
   pub long : length d ≡ 32
 
 -- What SHA-256 gives is a digest.
@@ -25,35 +25,35 @@ pub digest-is : (m : List ℕ) → IsDigest (digest m)
 digest-is m = record { bytes = bytes-digest m; long = length-digest m }
 
 -- Leaves are digests.
-pub leaves_are : (xs : List (List ℕ)) → All IsDigest (map leaf xs)
+pub leaves_are : (xs : List (List ℕ)) → AllByRecursion IsDigest (map leaf xs)
 leaves_are [] = tt
 leaves_are (x ∷ xs) = (digest-is (0 ∷ x), leaves_are xs)
 
 -- The root over some digests is a digest.
-pub root_is : (ds : List (List ℕ)) → 0 < length ds → All IsDigest ds → IsDigest (root ds)
+pub root_is : (ds : List (List ℕ)) → 0 < length ds → AllByRecursion IsDigest ds → IsDigest (root ds)
 root_is [] h a = absurd (omega arith)
 root_is (d ∷ []) h a = rw root_one a.0
 root_is (d ∷ (e ∷ ds)) h a = let all : List (List ℕ) = d ∷ (e ∷ ds) in subst IsDigest (sym (root_of_halves all (omega arith))) (digest-is _)
 
 -- the path of each place of this row has digests only, if the row has
 abbrev EachIs : List (List ℕ) → Type 0
-EachIs ds = (m : ℕ) → All IsDigest ds → All IsDigest (path m ds)
+EachIs ds = (m : ℕ) → AllByRecursion IsDigest ds → AllByRecursion IsDigest (path m ds)
 
 is_in_both : (ds : List (List ℕ)) → 1 < length ds → EachIs (front ds) → EachIs (back ds) → EachIs ds
 is_in_both ds two a b m h = go (cases_lt m (cut (length ds)))
   where
-    left : All IsDigest (front ds)
+    left : AllByRecursion IsDigest (front ds)
     left = All-take IsDigest (cut (length ds)) ds h
 
-    right : All IsDigest (back ds)
+    right : AllByRecursion IsDigest (back ds)
     right = All-drop IsDigest (cut (length ds)) ds h
 
-    go : (m < cut (length ds)) ⊎ (cut (length ds) ≤ m) → All IsDigest (path m ds)
+    go : (m < cut (length ds)) ⊎ (cut (length ds) ≤ m) → AllByRecursion IsDigest (path m ds)
     go (inl l) = let c = cut_between (length ds) two in rw (path_in_front m ds two l) (root_is (back ds) (omega (arith, length_back ds)) right, a m left)
     go (inr l) = let c = cut_between (length ds) two in rw (path_in_back m ds two l) (root_is (front ds) (omega (arith, length_front ds two)) left, b (m - cut (length ds)) right)
 
 -- The paths over digests are digests.
-pub path-is : (ds : List (List ℕ)) (m : ℕ) → All IsDigest ds → All IsDigest (path m ds)
+pub path-is : (ds : List (List ℕ)) (m : ℕ) → AllByRecursion IsDigest ds → AllByRecursion IsDigest (path m ds)
 unfolding path_f
 path-is = by_halves EachIs (λ m h. tt) (λ d m h. tt) is_in_both
 

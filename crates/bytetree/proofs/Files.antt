@@ -1,7 +1,7 @@
 -- A list in parts of one length: the parts of a file are its pieces, and those of a path as it is sent are its digests.
 use Rattle.std.proofs.Common.{◌≡◌, ℕ, zero, suc, ◌+◌, ◌-◌, ◌*◌, ◌/◌, ◌<◌, ◌≤◌, min, List, [], ◌∷◌, ◌++◌, map, length, get_or, take, drop, sym, refl, ap, ◌∙◌, suc-add, mul-zero, zero-add, arith, length-append, length-drop, take-append-drop, length-take}
 use lib.Lanes.{sum_l}
-use Rattle.std.specs.List.{range_with_len, AllByRecursion as All}
+use Rattle.std.specs.List.{range_with_len, AllByRecursion}
 use Rattle.std.proofs.lemmas.List.{drop-drop, take_at, drop_at, take-append-le, drop-append-le, nil_from_length}
 use Rattle.std.proofs.ByRecursion.{All-take, All-drop}
 use Rattle.bytetree.specs.Pieces.{parts, piece_count, piece_length, pieces}
@@ -29,13 +29,13 @@ module _ {X : Type 0} where
   part_long n k xs m d h l = rw (get_or-parts n k xs m d h) (simp (length-take, length-drop) (omega arith))
 
   -- If all of them do, then all are.
-  pub parts-long : (n k : ℕ) (xs : List X) → n * k ≤ length xs → All (λ p. length p ≡ n) (parts n k xs)
+  pub parts-long : (n k : ℕ) (xs : List X) → n * k ≤ length xs → AllByRecursion (λ p. length p ≡ n) (parts n k xs)
   unfolding parts
   parts-long n zero xs h = tt
   parts-long n (suc k) xs h = (simp length-take (omega arith), parts-long n k (drop n xs) (simp length-drop (omega arith)))
 
   -- No part is longer than n.
-  pub parts-short : (n k : ℕ) (xs : List X) → All (λ p. length p ≤ n) (parts n k xs)
+  pub parts-short : (n k : ℕ) (xs : List X) → AllByRecursion (λ p. length p ≤ n) (parts n k xs)
   unfolding parts
   parts-short n zero xs = tt
   parts-short n (suc k) xs = (simp length-take (omega arith), parts-short n k (drop n xs))
@@ -49,7 +49,7 @@ module _ {X : Type 0} where
       rw (suc-add, take-append-le n xs ys l, drop-append-le n xs ys l) (ap {B = List (List X)} (λ r. take n xs ∷ r) (parts-append n k j (drop n xs) ys (simp length-drop (omega arith))))
 
   -- What holds of each element holds of each element of each part.
-  pub all-parts : (P : X → Type 0) (n k : ℕ) (xs : List X) → All P xs → All (All P) (parts n k xs)
+  pub all-parts : (P : X → Type 0) (n k : ℕ) (xs : List X) → AllByRecursion P xs → AllByRecursion (AllByRecursion P) (parts n k xs)
   unfolding parts
   all-parts P n zero xs h = tt
   all-parts P n (suc k) xs h = (All-take P n xs h, all-parts P n k (drop n xs) (All-drop P n xs h))
@@ -81,26 +81,26 @@ pieces-append a b k e =
     rw (first, both) (parts-append 16384 k (piece_count (length b)) a b e)
 
 -- Each piece is no longer than 16,384 bytes.
-pub pieces-short : (file : List ℕ) → All (λ p. length p ≤ 16384) (pieces file)
+pub pieces-short : (file : List ℕ) → AllByRecursion (λ p. length p ≤ 16384) (pieces file)
 pieces-short file = parts-short 16384 (piece_count (length file)) file
 
 -- The pieces of bytes are bytes.
-pub pieces-bytes : (file : List ℕ) → All (λ b. b < 256) file → All (All (λ b. b < 256)) (pieces file)
+pub pieces-bytes : (file : List ℕ) → AllByRecursion (λ b. b < 256) file → AllByRecursion (AllByRecursion (λ b. b < 256)) (pieces file)
 pieces-bytes file = all-parts (λ b. b < 256) 16384 (piece_count (length file)) file
 
 -- Digests that are joined up are 32 bytes for each.
-pub length-joined : (ds : List (List ℕ)) → All (λ d. length d ≡ 32) ds → length (joined_up ds) ≡ 32 * length ds
+pub length-joined : (ds : List (List ℕ)) → AllByRecursion (λ d. length d ≡ 32) ds → length (joined_up ds) ≡ 32 * length ds
 unfolding joined_up
 length-joined [] h = refl
 length-joined (d ∷ ds) h = simp length-append (omega (arith, h.0, length-joined ds h.1))
 
-parts-joined : (ds : List (List ℕ)) → All (λ d. length d ≡ 32) ds → parts 32 (length ds) (joined_up ds) ≡ ds
+parts-joined : (ds : List (List ℕ)) → AllByRecursion (λ d. length d ≡ 32) ds → parts 32 (length ds) (joined_up ds) ≡ ds
 unfolding parts joined_up
 parts-joined [] h = refl
 parts-joined (d ∷ ds) h = cc (take_at d (joined_up ds) 32 h.0, drop_at d (joined_up ds) 32 h.0, parts-joined ds h.1)
 
 -- Digests that are joined up come apart again.
-pub digests_join : (ds : List (List ℕ)) → All (λ d. length d ≡ 32) ds → digests (joined_up ds) ≡ ds
+pub digests_join : (ds : List (List ℕ)) → AllByRecursion (λ d. length d ≡ 32) ds → digests (joined_up ds) ≡ ds
 digests_join ds h =
     let many : length (joined_up ds) / 32 ≡ length ds = omega (arith, length-joined ds h) in
     rw many (parts-joined ds h)
@@ -110,9 +110,9 @@ pub join_digests : (bs : List ℕ) → length bs ≡ 32 * (length bs / 32) → j
 join_digests bs e = joined-parts 32 (length bs / 32) bs (omega arith)
 
 -- Each of the digests is 32 long.
-pub digests-long : (bs : List ℕ) → All (λ d. length d ≡ 32) (digests bs)
+pub digests-long : (bs : List ℕ) → AllByRecursion (λ d. length d ≡ 32) (digests bs)
 digests-long bs = parts-long 32 (length bs / 32) bs (omega arith)
 
 -- The digests of bytes are bytes.
-pub digests-bytes : (bs : List ℕ) → All (λ b. b < 256) bs → All (All (λ b. b < 256)) (digests bs)
+pub digests-bytes : (bs : List ℕ) → AllByRecursion (λ b. b < 256) bs → AllByRecursion (AllByRecursion (λ b. b < 256)) (digests bs)
 digests-bytes bs = all-parts (λ b. b < 256) 32 (length bs / 32) bs

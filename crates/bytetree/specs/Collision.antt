@@ -1,6 +1,6 @@
 -- Whatever leads to a file's root is the file's, or hands over two byte strings of one digest: which two, and what is claimed of them. Assumes nothing.
 use Rattle.std.specs.Prelude.{◌≡◌, ℕ, ◌-◌, ◌<◌, Bool, true, false, cond, ◌&&◌, ◌≢◌, List, [], ◌∷◌, ◌++◌, map, length, take, drop, Some, None, Option, ◌==◌, nat_lt, slice_index_or}
-use Rattle.std.specs.List.{AllByRecursion as All}
+use Rattle.std.specs.List.{AllByRecursion}
 use Rattle.sha256.specs.Sha256.{digest, Message}
 use Rattle.swarm.specs.Tree.{cut}
 use Rattle.bytetree.specs.Pieces.{pieces}
@@ -53,5 +53,5 @@ Verdict file m piece way None = (piece ≡ slice_index_or (pieces file) m []) ×
 Verdict file m piece way (Some (Two x y)) = Collision x y
 
 abbrev pub CollisionOrRight : Type 0
-CollisionOrRight = (file piece way : List ℕ) (m : ℕ) → Message file → All (λ b. b < 256) piece → All (λ b. b < 256) way →
+CollisionOrRight = (file piece way : List ℕ) (m : ℕ) → Message file → AllByRecursion (λ b. b < 256) piece → AllByRecursion (λ b. b < 256) way →
     Leads (length file) (file_root file) m piece way → Verdict file m piece way (found file m piece way)

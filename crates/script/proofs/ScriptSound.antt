@@ -12,13 +12,13 @@ use Rattle.script.specs.declared.statement.Expected.{Expected}
 use Rattle.script.specs.declared.statement.Statement.{Statement}
 use Rattle.std.proofs.ByRecursion.{All-weaker, all_from_every}
 use Rattle.std.proofs.lemmas.Bool.{cond_both, and_parts}
-use Rattle.std.specs.List.{AllByRecursion as All}
+use Rattle.std.specs.List.{AllByRecursion}
 
 -- what holds after each line
 record Good (s : Sheet) : Type 0 where
   peers_rise : Ordered (λ p q. number_of p < number_of q) s.peers
   events_rise : Ordered (λ e f. tick_of e ≤ tick_of f) s.events
-  ends : All (Ends s.peers) s.events
+  ends : AllByRecursion (Ends s.peers) s.events
 
 -- the sheet, if it is taken, is good
 abbrev Keeps : Result Sheet Expected → Type 0

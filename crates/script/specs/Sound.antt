@@ -3,12 +3,12 @@ use Rattle.std.specs.Prelude.{◌≡◌, ℕ, ◌<◌, ◌≤◌, true, false, L
 use Rattle.script.specs.Sheets.{Sheet, known, number_of, tick_of, bad_break, script}
 use Rattle.script.specs.declared.sheet.Event.{Event}
 use Rattle.script.specs.declared.sheet.Peer.{Peer}
-use Rattle.std.specs.List.{AllByRecursion as All}
+use Rattle.std.specs.List.{AllByRecursion}
 
 -- each item stands so to all that follow it
 abbrev pub Ordered : {X : Type 0} → (X → X → Type 0) → List X → Type 0
 Ordered R [] = Unit {0}
-Ordered R (x ∷ xs) = All (R x) xs × Ordered R xs
+Ordered R (x ∷ xs) = AllByRecursion (R x) xs × Ordered R xs
 
 -- both ends of an event are peers of the script, and different
 abbrev pub Ends : List Peer → Event → Type 0
@@ -19,7 +19,7 @@ pub record Sound (s : Sheet) : Type 0 where
   pub peers_rise : Ordered (λ p q. number_of p < number_of q) s.peers
   -- events stand by their ticks
   pub events_rise : Ordered (λ e f. tick_of e ≤ tick_of f) s.events
-  pub ends : All (Ends s.peers) s.events
+  pub ends : AllByRecursion (Ends s.peers) s.events
   -- it says how many rounds, and breaks only links that stand
   pub rounds_said : is_some s.rounds ≡ true
   pub breaks_stand : bad_break [] s.events ≡ None

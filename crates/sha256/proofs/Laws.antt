@@ -2,7 +2,7 @@
 use Rattle.std.proofs.Common.{◌≡◌, ℕ, zero, suc, ◌*◌, ◌/◌, ◌^◌, ◌<◌, List, [], ◌∷◌, length, sym, refl, ap, ◌∙◌, arith}
 use lib.Lanes.{zip2}
 use lib.LanesLaws.{length-zip2}
-use Rattle.std.specs.List.{AllByRecursion as All}
+use Rattle.std.specs.List.{AllByRecursion}
 use Rattle.sha256.specs.Words.{add}
 use Rattle.sha256.specs.Constants.{initial}
 use Rattle.sha256.specs.Sha256.{rounds, compress, block, hashed, bytes, pad, digest}
@@ -33,23 +33,23 @@ pub length-digest : (m : List ℕ) → length (digest m) ≡ 32
 unfolding digest
 length-digest m = length-bytes (hashed (pad m) (length (pad m) / 64)) ∙ ap (λ n. 4 * n) (length-hashed (pad m) (length (pad m) / 64))
 
-all-bytes : (ws : List ℕ) → All (λ b. b < 256) (bytes ws)
+all-bytes : (ws : List ℕ) → AllByRecursion (λ b. b < 256) (bytes ws)
 unfolding bytes
 all-bytes [] = tt
 all-bytes (w ∷ ws) = (omega arith, (omega arith, (omega arith, (omega arith, all-bytes ws))))
 
 -- Each element of a digest is a byte.
-pub bytes-digest : (m : List ℕ) → All (λ b. b < 256) (digest m)
+pub bytes-digest : (m : List ℕ) → AllByRecursion (λ b. b < 256) (digest m)
 unfolding digest
 bytes-digest m = all-bytes (hashed (pad m) (length (pad m) / 64))
 
-sums_below : (xs ys : List ℕ) → All (λ w. w < 2 ^ 32) (zip2 add xs ys)
+sums_below : (xs ys : List ℕ) → AllByRecursion (λ w. w < 2 ^ 32) (zip2 add xs ys)
 sums_below [] ys = tt
 sums_below (x ∷ xs) [] = tt
 sums_below (x ∷ xs) (y ∷ ys) = (omega arith, sums_below xs ys)
 
 -- Each element of a hash value is a word.
-pub hashed_below : (bs : List ℕ) (i : ℕ) → All (λ w. w < 2 ^ 32) (hashed bs i)
+pub hashed_below : (bs : List ℕ) (i : ℕ) → AllByRecursion (λ w. w < 2 ^ 32) (hashed bs i)
 unfolding hashed initial
 hashed_below bs zero = omega arith
 hashed_below bs (suc i) = sums_below (hashed bs i) (rounds (block bs i) (hashed bs i) 64)

@@ -1,13 +1,13 @@
 -- SHA-256 of a byte string: padding, schedule, rounds and digest. Assumes nothing.
 use Rattle.std.specs.Prelude.{ℕ, zero, suc, ◌+◌, ◌-◌, ◌*◌, ◌/◌, ◌%◌, ◌^◌, ◌<◌, List, [], ◌∷◌, ◌++◌, length, take, drop, replicate, slice_index}
 use Rattle.std.specs.Simd.Lanes.{zip2}
-use Rattle.std.specs.List.{AllByRecursion as All}
+use Rattle.std.specs.List.{AllByRecursion}
 use Rattle.sha256.specs.Words.{add, ch, maj, bsig0, bsig1, ssig0, ssig1}
 use Rattle.sha256.specs.Constants.{constants, initial}
 
 -- what has a digest: bytes, and so many that 64 bits hold the number of their bits
 pub record Message (m : List ℕ) : Type 0 where
-  pub bytes : All (λ b. b < 256) m
+  pub bytes : AllByRecursion (λ b. b < 256) m
   pub short : length m < 2 ^ 61
 
 -- four bytes as a word and a word as four bytes, the high byte first
