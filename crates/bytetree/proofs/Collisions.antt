@@ -11,7 +11,7 @@ use Rattle.swarm.proofs.Cuts.{cut_between}
 use Rattle.bytetree.specs.Pieces.{pieces}
 use Rattle.bytetree.specs.ByteTree.{leaf, node, root, path, folds, beside_right, beside_left, digests, joined_up}
 use Rattle.bytetree.specs.Collision.{Pair, Two, Collision, same, unless, clash, Verdict, CollisionOrRight}
-use Rattle.bytetree.proofs.Halves.{front, back, length_front, length_back, get_d_front, get_or_back, root_one, root_of_halves, path_one, path_in_front, path_in_back}
+use Rattle.bytetree.proofs.Halves.{front, back, length_front, length_back, get_or_front, get_or_back, root_one, root_of_halves, path_one, path_in_front, path_in_back}
 use Rattle.bytetree.proofs.Trees.{folds_in_front, folds_in_back}
 use Rattle.bytetree.proofs.Digests.{IsDigest, digest-is, leaves_are, root_is}
 use Rattle.bytetree.proofs.Files.{pieces_add_up, pieces-bytes, pieces-short, digests-bytes, digests-long, join_digests}
@@ -145,7 +145,7 @@ at_node P a b c d further da db dc dd e apart on =
 
 verdict_front : (xs : List (List ℕ)) (m : ℕ) (piece p : List ℕ) (ps : List (List ℕ)) → 1 < length xs → m < cut (length xs) → root (map leaf (back xs)) ≡ p →
     (o : Option Pair) → RowVerdict (front xs) m piece ps o → RowVerdict xs m piece (p ∷ ps) o
-verdict_front xs m piece p ps two h e None v = (v.0 ∙ get_d_front xs m [] h, cc (path_front_leaves m xs two h, v.1))
+verdict_front xs m piece p ps two h e None v = (v.0 ∙ get_or_front xs m [] h, cc (path_front_leaves m xs two h, v.1))
 verdict_front xs m piece p ps two h e (Some (Two x y)) v = v
 
 verdict_back : (xs : List (List ℕ)) (m : ℕ) (piece p : List ℕ) (ps : List (List ℕ)) → 1 < length xs → cut (length xs) ≤ m → root (map leaf (front xs)) ≡ p →

@@ -24,8 +24,8 @@ module _ {A : Type 0} where
   length_back xs = length-drop (cut (length xs)) xs
 
   -- Each place before the cut is a place of the front.
-  pub get_d_front : (xs : List A) (m : ℕ) (d : A) → m < cut (length xs) → get_or (front xs) m d ≡ get_or xs m d
-  get_d_front xs m d h = get_or-take (cut (length xs)) xs m d h
+  pub get_or_front : (xs : List A) (m : ℕ) (d : A) → m < cut (length xs) → get_or (front xs) m d ≡ get_or xs m d
+  get_or_front xs m d h = get_or-take (cut (length xs)) xs m d h
 
   -- Each other place is a place of the back.
   pub get_or_back : (xs : List A) (m : ℕ) (d : A) → cut (length xs) ≤ m → get_or (back xs) (m - cut (length xs)) d ≡ get_or xs m d

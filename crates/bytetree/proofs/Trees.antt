@@ -8,7 +8,7 @@ use Rattle.swarm.specs.Tree.{Dig, Leaf, Maybe, Is, left_of, right_of, leads, cut
 use Rattle.swarm.proofs.Cuts
 use Rattle.bytetree.specs.ByteTree.{leaf, root_f, root, path_f, path, beside_right, beside_left, folds}
 use Rattle.bytetree.specs.Image.{PathLeads, PathShort, ImageOfTerms, image, image_of}
-use Rattle.bytetree.proofs.Halves.{front, back, length_front, length_back, get_d_front, get_or_back, by_halves, root_of_halves, path_in_front, path_in_back, cut_half}
+use Rattle.bytetree.proofs.Halves.{front, back, length_front, length_back, get_or_front, get_or_back, by_halves, root_of_halves, path_in_front, path_in_back, cut_half}
 
 -- A path from a place in the front leads to what it leads to there, beside its first digest.
 pub folds_in_front : (n m : ℕ) (d p : List ℕ) (ps : List (List ℕ)) → 1 < n → m < cut n → folds n m d (p ∷ ps) ≡ beside_right p (folds (cut n) m d ps)
@@ -38,7 +38,7 @@ each_in_both ds two a b m k = go (cases_lt m (cut (length ds)))
       folds_in_front (length ds) m (get_or ds m []) (root (back ds)) (path m (front ds)) two h,
       a m (omega (arith, length_front ds two)),
       length_front ds two,
-      get_d_front ds m [] h,
+      get_or_front ds m [] h,
       root_of_halves ds two,
     )
     go (inr h) = cc (

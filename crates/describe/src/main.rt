@@ -14,7 +14,7 @@ use showing::show;
 use std::env;
 use std::process::ExitCode;
 
-// Ends with status 1 where something was wrong, once that was said.
+// Ends with status 1 where something went wrong; what is said of it is said below.
 fn main(rt: HostRuntime) -> ExitCode {
     match begin(&rt) {
         Ok(()) => ExitCode::SUCCESS,

@@ -12,7 +12,7 @@ use std::{env, fs, io};
 // How many bytes are read at once: four pieces.
 const AT_ONCE: usize = 65_536;
 
-// Ends with status 1 where something was wrong, once that was said.
+// Ends with status 1 where something went wrong; what is said of it is said below.
 fn main(rt: HostRuntime) -> ExitCode {
     match run(&rt) {
         Ok(()) => ExitCode::SUCCESS,

@@ -2,14 +2,14 @@
 use Rattle.std.proofs.Common.{◌≡◌, ℕ, ◌+◌, ◌*◌, ◌<◌, List, length, get_or, take, set, sym, ◌∙◌, arith}
 use Rattle.std.proofs.lemmas.List.{take_more, take_more_set, take_all}
 use Rattle.sha256.specs.Sha256.{words, word}
-use Rattle.sha256.proofs.Schedules.{length-words, get_d_words}
+use Rattle.sha256.proofs.Schedules.{length-words, get_or_words}
 
 -- One word more.
 pub loaded_more : (bs w : List ℕ) (i x : ℕ) → length w ≡ 16 → length bs ≡ 64 → i < 16 → take i w ≡ take i (words bs) →
     x ≡ word (get_or bs (4 * i) 0) (get_or bs (4 * i + 1) 0) (get_or bs (4 * i + 2) 0) (get_or bs (4 * i + 3) 0) → take (i + 1) (set w i x) ≡ take (i + 1) (words bs)
 loaded_more bs w i x l m lt p e =
     let long = length-words bs 16 m in
-    let here = e ∙ sym (get_d_words bs i (omega arith)) in
+    let here = e ∙ sym (get_or_words bs i (omega arith)) in
     cc (take_more_set w i x (omega arith), take_more (words bs) i 0 (omega arith), p, here)
 
 -- All sixteen.

@@ -46,14 +46,14 @@ length-words (a ∷ b ∷ c ∷ d ∷ bs) zero e = absurd (omega arith)
 length-words (a ∷ b ∷ c ∷ d ∷ bs) (suc n) e = ap suc (length-words bs n (omega arith))
 
 -- Word i is made of the four bytes from 4 * i on.
-pub get_d_words : (bs : List ℕ) (i : ℕ) → 4 * i + 4 ≤ length bs → get_or (words bs) i 0 ≡ word (get_or bs (4 * i) 0) (get_or bs (4 * i + 1) 0) (get_or bs (4 * i + 2) 0) (get_or bs (4 * i + 3) 0)
+pub get_or_words : (bs : List ℕ) (i : ℕ) → 4 * i + 4 ≤ length bs → get_or (words bs) i 0 ≡ word (get_or bs (4 * i) 0) (get_or bs (4 * i + 1) 0) (get_or bs (4 * i + 2) 0) (get_or bs (4 * i + 3) 0)
 unfolding words
-get_d_words [] i h = absurd (omega arith)
-get_d_words (a ∷ []) i h = absurd (omega arith)
-get_d_words (a ∷ b ∷ []) i h = absurd (omega arith)
-get_d_words (a ∷ b ∷ c ∷ []) i h = absurd (omega arith)
-get_d_words (a ∷ b ∷ c ∷ d ∷ bs) zero h = refl
-get_d_words (a ∷ b ∷ c ∷ d ∷ bs) (suc i) h =
+get_or_words [] i h = absurd (omega arith)
+get_or_words (a ∷ []) i h = absurd (omega arith)
+get_or_words (a ∷ b ∷ []) i h = absurd (omega arith)
+get_or_words (a ∷ b ∷ c ∷ []) i h = absurd (omega arith)
+get_or_words (a ∷ b ∷ c ∷ d ∷ bs) zero h = refl
+get_or_words (a ∷ b ∷ c ∷ d ∷ bs) (suc i) h =
     let e : 4 * suc i ≡ suc (suc (suc (suc (4 * i)))) = omega arith in
     let f : (k : ℕ) → 4 * suc i + k ≡ suc (suc (suc (suc (4 * i + k)))) = λ k. omega arith in
-    rw (f 1, f 2, f 3, e) (get_d_words bs i (omega arith))
+    rw (f 1, f 2, f 3, e) (get_or_words bs i (omega arith))

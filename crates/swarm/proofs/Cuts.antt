@@ -38,8 +38,8 @@ length_front xs h = let c = cut_between (length xs) h in rw take-is-take (simp l
 pub length_back : (xs : List ℕ) → length (back xs) ≡ length xs - cut (length xs)
 length_back xs = rw drop-is-drop (length-drop (cut (length xs)) xs)
 
-pub get_d_front : (xs : List ℕ) (m d : ℕ) → m < cut (length xs) → get_or (front xs) m d ≡ get_or xs m d
-get_d_front xs m d h = rw take-is-take (get_or-take (cut (length xs)) xs m d h)
+pub get_or_front : (xs : List ℕ) (m d : ℕ) → m < cut (length xs) → get_or (front xs) m d ≡ get_or xs m d
+get_or_front xs m d h = rw take-is-take (get_or-take (cut (length xs)) xs m d h)
 
 pub get_or_back : (xs : List ℕ) (m d : ℕ) → cut (length xs) ≤ m → get_or (back xs) (m - cut (length xs)) d ≡ get_or xs m d
 get_or_back xs m d h = let e : cut (length xs) + (m - cut (length xs)) ≡ m = omega arith in rw (drop-is-drop, get_or-drop, e)

@@ -5,7 +5,7 @@ use Rattle.std.proofs.lemmas.Bool.Decides.{nat_tests}
 use Rattle.swarm.specs.Tree.{Dig, Leaf, Node, cut, top_f, top, way_f, way, Maybe, None, Is, left_of, right_of, leads}
 use Rattle.swarm.specs.Promise.{WayExact}
 use Rattle.swarm.specs.Levels.{WayUnique}
-use Rattle.swarm.proofs.Cuts.{cut_between, front, back, length_front, length_back, get_d_front, get_or_back, by_halves, top_of_halves, way_in_front, way_in_back}
+use Rattle.swarm.proofs.Cuts.{cut_between, front, back, length_front, length_back, get_or_front, get_or_back, by_halves, top_of_halves, way_in_front, way_in_back}
 
 leads_in_front : (n m : ℕ) (d p : Dig) (ps : List Dig) → 1 < n → m < cut n → leads n m d (p ∷ ps) ≡ left_of p (leads (cut n) m d ps)
 unfolding leads
@@ -61,7 +61,7 @@ only_in_both xs two a b m x (p ∷ ps) e = go (cases_lt m (cut (length xs)))
         let c = cut_between (length xs) two in
         let l = left_of_made_of _ p _ _ (sym (leads_in_front (length xs) m (Leaf x) p ps two h) ∙ whole) in
         let i = a m x ps (ap (λ k. leads k m (Leaf x) ps) (length_front xs two) ∙ l.0) in
-        (omega (arith, length_front xs two), sym (get_d_front xs m (suc x) h) ∙ i.1, cc (way_in_front m xs two h))
+        (omega (arith, length_front xs two), sym (get_or_front xs m (suc x) h) ∙ i.1, cc (way_in_front m xs two h))
     go (inr h) =
         let c = cut_between (length xs) two in
         let r = right_of_made_of _ p _ _ (sym (leads_in_back (length xs) m (Leaf x) p ps two h) ∙ whole) in
@@ -92,7 +92,7 @@ each_in_both xs two a b m d k = go (cases_lt m (cut (length xs)))
       leads_in_front (length xs) m (Leaf (get_or xs m d)) (top (back xs)) (way m (front xs)) two h,
       a m d (omega (arith, length_front xs two)),
       length_front xs two,
-      get_d_front xs m d h,
+      get_or_front xs m d h,
       top_of_halves xs two,
     )
     go (inr h) = cc (

@@ -12,7 +12,7 @@ use std::process::ExitCode;
 use ways::{LANES, WAYS, first_and_others, in_lane, in_parts};
 use wire::hex_digits;
 
-// Ends with status 1 where something was wrong, once that was said.
+// Ends with status 1 where something went wrong; what is said of it is said below.
 fn main(rt: HostRuntime) -> ExitCode {
     match compare_all(&rt) {
         Ok(()) => ExitCode::SUCCESS,

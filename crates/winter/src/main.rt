@@ -14,7 +14,7 @@ struct Named {
     script: Script,
 }
 
-// Ends with status 1 where something was wrong, once that was said.
+// Ends with status 1 where something went wrong; what is said of it is said below.
 fn main(rt: HostRuntime) -> ExitCode {
     match play_all(&rt) {
         Ok(()) => ExitCode::SUCCESS,
