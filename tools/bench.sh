@@ -1,11 +1,11 @@
 #!/bin/sh
 # Measures the digests on one cached file: our one stream and our root beside sha256sum and openssl, and all of describe.
 # usage: tools/bench.sh [FILE]    (without FILE it makes one of 1 GiB in a temporary folder)
-# Needs the programs in target/bin: run 'rt check' first.
+# Proves and builds the programs first.
 set -eu
 root=$(cd "$(dirname "$0")/.." && pwd)
-hashes=$root/target/bin/hashes
-describe=$root/target/bin/describe
+hashes=$root/crates/hashes/out/hashes
+describe=$root/crates/describe/out/describe
 folder=$(mktemp -d)
 trap 'rm -rf "$folder"' EXIT
 file=${1:-$folder/file}
@@ -13,6 +13,8 @@ if [ $# -eq 0 ]; then
     head -c 1073741824 /dev/urandom > "$file"
 fi
 cat "$file" > /dev/null
+(cd "$root/crates/hashes" && rt run -- stream /dev/null) > "$folder/log" 2>&1
+(cd "$root/crates/describe" && rt run -- show data/notes.description) > "$folder/log" 2>&1
 
 # The least of five runs, in milliseconds.
 best() {
