@@ -1,34 +1,25 @@
--- What decides whether a piece and its path lead to the root: the place, the two lengths, and what the path leads to.
-use Rattle.std.proofs.Common.{◌≡◌, ℕ, ◌%◌, ◌<◌, ◌≤◌, Bool, false, List, length, Some, None, sym, true≢false, arith}
+-- What a path leads to, compared with the root, decides whether a piece of the right length and its path lead there.
+use Rattle.std.proofs.Common.{◌≡◌, ℕ, ◌/◌, ◌%◌, ◌<◌, Bool, List, length, Some, None, Option, eqb, sym, ap, ◌∙◌, true≢false, arith}
+use Rattle.std.specs.Cmp.Lexicographic.{pointwise}
+use Rattle.std.specs.Option.{option_eq}
+use Rattle.std.specs.Simd.{first_chunks}
+use Rattle.std.proofs.lemmas.Bool.Decides.{Decides-eqb}
+use Rattle.std.proofs.lemmas.Slice.Eq.{slice_eq-Decides}
 use Rattle.bytetree.specs.Pieces.{piece_count, piece_length}
 use Rattle.bytetree.specs.ByteTree.{Leads, digests, folds, leaf}
 use Rattle.merkle.specs.Decisions.{Decides}
+use Rattle.merkle.proofs.Steps.{chunks_parts}
 
-module _ {len : ℕ} {top : List ℕ} {m : ℕ} {piece way : List ℕ} where
-  refused : (Leads len top m piece way → ⊥) → Decides false (Leads len top m piece way)
-  refused not = ((λ e. absurd (true≢false (sym e))), λ l. absurd (not l))
+-- Whether something was found that is this.
+pub found_it : (found : Option (List ℕ)) (top : List ℕ) (r : Bool) → r ≡ option_eq (pointwise eqb) found (Some top) → Decides r (found ≡ Some top)
+found_it None top r e = ((λ t. absurd (true≢false (sym t ∙ e))), λ s. cc)
+found_it (Some d) top r e = let same = slice_eq-Decides Decides-eqb d top r e in ((λ t. ap Some (same.0 t)), λ s. same.1 (cc))
 
-  -- There is no such place.
-  pub no_place : piece_count len ≤ m → Decides false (Leads len top m piece way)
-  no_place h = refused (λ l. omega (arith, l.there))
-
-  -- The piece has another length.
-  pub other_length : (length piece ≡ piece_length len m → ⊥) → Decides false (Leads len top m piece way)
-  other_length other = refused (λ l. other l.sized)
-
-  -- The path has bytes left over.
-  pub not_whole : (length way % 32 ≡ 0 → ⊥) → Decides false (Leads len top m piece way)
-  not_whole over = refused (λ l. over (omega (arith, l.whole)))
-
-  module _ {n : ℕ} {from : List ℕ} (counted : n ≡ piece_count len) (digest : from ≡ leaf piece) where
-    -- The path leads nowhere.
-    pub leads_nowhere : None ≡ folds n m from (digests way) → Decides false (Leads len top m piece way)
-    leads_nowhere e = refused (λ l. let z : ◌≡◌ {A = ℕ} 0 1 = cc (e, l.leads) in omega arith)
-
-    -- The path leads somewhere, and that is compared with the root.
-    pub leads-to : {to : List ℕ} (r : Bool) → m < piece_count len → length piece ≡ piece_length len m → length way % 32 ≡ 0 → Some to ≡ folds n m from (digests way) →
-        Decides r (to ≡ top) → Decides r (Leads len top m piece way)
-    leads-to r there sized whole e same = (
+-- The place is there, the piece has its length, and the path is whole digests.
+pub leads_there : {len m n : ℕ} {top from piece way : List ℕ} {path : List (List ℕ)} {found : Option (List ℕ)} (r : Bool) → m < piece_count len → length piece ≡ piece_length len m → length way % 32 ≡ 0 →
+    n ≡ piece_count len → from ≡ leaf piece → path ≡ first_chunks 32 (length way / 32) way → found ≡ folds n m from path → Decides r (found ≡ Some top) → Decides r (Leads len top m piece way)
+leads_there {len} {m} {n} {top} {from} {piece} {way} {path} {found} r there sized whole count digest chunks leads same =
+    let whole_path : path ≡ digests way = chunks ∙ chunks_parts 32 (length way / 32) way in (
       (λ t. let at = same.0 t in record { there = there; sized = sized; whole = omega arith; leads = cc }),
-      λ l. same.1 (cc l.leads),
+      λ l. same.1 (cc (l.leads)),
     )

@@ -1,5 +1,5 @@
 -- The nodes of a row are those of its front, its root and those of its back, one less than its leaves.
-use Rattle.std.proofs.Common.{◌≡◌, ℕ, zero, suc, ◌+◌, ◌-◌, ◌<◌, ◌≤◌, List, [], ◌∷◌, ◌++◌, length, get_or, take, drop, set, refl, append-nil, arith, length-append, length-drop, length-take}
+use Rattle.std.proofs.Common.{◌≡◌, ℕ, zero, suc, ◌+◌, ◌-◌, ◌<◌, ◌≤◌, List, [], ◌∷◌, ◌++◌, length, get_or, take, drop, set, refl, ap, ◌∙◌, append-nil, arith, length-append, length-drop}
 use borrow.Rule.Slice.PartMut.{put_mid}
 use lib.Seq.{append_snoc}
 use Rattle.std.proofs.lemmas.List.{take_at, drop_at, get_or_at, set_at, drop_more, drop_all}
@@ -14,6 +14,15 @@ pub root_alone : (ds : List (List ℕ)) → length ds ≡ 1 → get_or ds 0 [] �
 root_alone [] h = absurd (omega arith)
 root_alone (d ∷ []) h = cc (root_one d)
 root_alone (d ∷ (e ∷ ds)) h = absurd (omega arith)
+
+-- The halves of a row of two or more are as long as it, and neither is empty.
+pub halved : (ds : List (List ℕ)) {left right : List (List ℕ)} → 1 < length ds → left ≡ take (cut (length ds)) ds → right ≡ drop (cut (length ds)) ds →
+    (length left ≡ cut (length ds)) × (0 < length left) × (0 < length right) × (length left + length right ≡ length ds)
+halved ds {left} {right} two f b =
+    let c = cut_between (length ds) two in
+    let l : length left ≡ cut (length ds) = ap length f ∙ length_front ds two in
+    let r : length right ≡ length ds - cut (length ds) = ap length b ∙ length_back ds in
+    (l, omega arith, omega arith, omega arith)
 
 -- A row of one has no nodes.
 pub inner_alone : (ds : List (List ℕ)) → length ds ≡ 1 → inner ds ≡ []
@@ -42,6 +51,10 @@ length-inner = by_halves OneLess (λ h. absurd (omega arith)) (λ d h. rw (inner
         let r = length_back ds in
         rw (inner_of_halves ds two, length-append) (omega (arith, a (omega arith), b (omega arith)))
 
+-- Nodes that are those of a row are one less than its leaves.
+pub inner_long : (ds : List (List ℕ)) {nodes : List (List ℕ)} → nodes ≡ inner ds → 0 < length ds → length nodes + 1 ≡ length ds
+inner_long ds {nodes} e some = let l : length nodes ≡ length (inner ds) = ap length e in omega (arith, length-inner ds some)
+
 -- as many nodes stand before the root
 before : (ds : List (List ℕ)) → 1 < length ds → length (inner (front ds)) ≡ cut (length ds) - 1
 before ds two =
@@ -63,10 +76,6 @@ inner_back ds two =
     let k = before ds two in
     let c = cut_between (length ds) two in
     rw (inner_of_halves ds two, ← append_snoc) (drop_at (inner (front ds) ++ (root ds ∷ [])) _ _ (rw length-append (omega arith)))
-
--- The place before a part that is written is a place of the list.
-pub place_before : {X : Type 0} (xs ls rs : List X) (k i n : ℕ) → 0 < k → k ≤ length xs → i ≡ k - 1 → length ls ≡ i → k - 1 < length (put_mid k n (ls ++ drop i xs) rs)
-place_before xs ls rs k i n p h e l = simp (length-append, length-take, length-append, length-drop) (omega arith)
 
 -- What is written to a list between its first part and its last stands between them.
 written : {X : Type 0} (xs ls rs : List X) (k i n : ℕ) (d : X) → 0 < k → k ≤ length xs → i ≡ k - 1 → length ls ≡ i → length xs ≤ k + n → set (put_mid k n (ls ++ drop i xs) rs) (k - 1) d ≡ ls ++ (d ∷ rs)

@@ -1,8 +1,7 @@
 -- The leaf digests of a file that grows by whole pieces.
-use Rattle.std.proofs.Common.{◌≡◌, ℕ, ◌+◌, ◌/◌, ◌%◌, ◌<◌, ◌≤◌, true, List, [], ◌∷◌, ◌++◌, map, length, get_or, take, drop, sym, refl, ap, ◌∙◌, ap₂, arith}
-use Rattle.std.proofs.lemmas.List.{map-append, take_all, length-append, drop-drop}
-use Rattle.std.proofs.lemmas.Simd.{pick_l_whole}
-use Rattle.sha256.specs.Parts.{each_counts}
+use Rattle.std.proofs.Common.{◌≡◌, ℕ, ◌+◌, ◌/◌, ◌%◌, ◌<◌, ◌≤◌, List, [], ◌∷◌, ◌++◌, map, length, get_or, sym, refl, ap, ◌∙◌, ap₂, arith}
+use Rattle.std.proofs.lemmas.List.{map-append, take_all, length-append}
+use Rattle.std.specs.Simd.{first_chunks}
 use Rattle.bytetree.specs.Pieces.{parts, pieces, piece_count}
 use Rattle.bytetree.specs.ByteTree.{leaf, leaves}
 use Rattle.bytetree.proofs.Files.{pieces-append}
@@ -29,43 +28,14 @@ one_taken file piece d ds es n even e some le p q r =
 pub count_more : (file part : List ℕ) (n : ℕ) → n ≡ length file → n + length part ≡ length (file ++ part)
 count_more file part n e = ap (λ (k : ℕ). k + length part) e ∙ sym (length-append file part)
 
--- A group of four whole pieces.
-module _ (group : List ℕ) (long : length group ≡ 65536) where
-  abbrev p : List ℕ
-  p = take 16384 group
-
-  abbrev q : List ℕ
-  q = take 16384 (drop 16384 group)
-
-  abbrev r : List ℕ
-  r = take 16384 (drop 32768 group)
-
-  abbrev s : List ℕ
-  s = take 16384 (drop 49152 group)
-
-  -- It has four digests.
-  pub leaves_four : leaves group ≡ leaf p ∷ (leaf q ∷ (leaf r ∷ (leaf s ∷ [])))
-  unfolding parts
-  leaves_four =
-      let four : piece_count (length group) ≡ 4 = omega (arith, long) in
-      let third : drop 16384 (drop 16384 group) ≡ drop 32768 group = drop-drop 16384 16384 group in
-      let fourth : drop 16384 (drop 32768 group) ≡ drop 49152 group = drop-drop 16384 32768 group in
-      rw (four, third, fourth) refl
-
--- Four parts of a piece's length can be counted.
-pub fits_four : (p q r s : List ℕ) → length p ≡ 16384 → length q ≡ 16384 → length r ≡ 16384 → length s ≡ 16384 → each_counts (p ∷ (q ∷ (r ∷ (s ∷ [])))) ≡ true
-fits_four p q r s a b c d = rw (a, b, c, d) refl
-
-behind : (ds : List (List ℕ)) (a b c d : List ℕ) → (((ds ++ (a ∷ [])) ++ (b ∷ [])) ++ (c ∷ [])) ++ (d ∷ []) ≡ ds ++ (a ∷ (b ∷ (c ∷ (d ∷ []))))
-behind [] a b c d = refl
-behind (x ∷ ds) a b c d = ap {B = List (List ℕ)} (λ (xs : List (List ℕ)). x ∷ xs) (behind ds a b c d)
-
--- Four digests pushed one after the other.
-pub four_pushed : (ds es fs gs hs four : List (List ℕ)) → length four ≡ 4 → es ≡ ds ++ (get_or four 0 [] ∷ []) → fs ≡ es ++ (get_or four 1 [] ∷ []) → gs ≡ fs ++ (get_or four 2 [] ∷ []) → hs ≡ gs ++ (get_or four 3 [] ∷ []) → hs ≡ ds ++ four
-four_pushed ds es fs gs hs four l e f g h =
-    let then = λ (xs : List (List ℕ)) (x : List ℕ). xs ++ (x ∷ []) in
-    h ∙ ap (λ (xs : List (List ℕ)). then xs (get_or four 3 [])) (g ∙ ap (λ (xs : List (List ℕ)). then xs (get_or four 2 [])) (f ∙ ap (λ (xs : List (List ℕ)). then xs (get_or four 1 [])) e))
-    ∙ behind ds (get_or four 0 []) (get_or four 1 []) (get_or four 2 []) (get_or four 3 []) ∙ ap (λ (xs : List (List ℕ)). ds ++ xs) (pick_l_whole [] four 4 l)
+-- Four whole pieces have four digests.
+pub leaves_four : (group : List ℕ) (pieces : List (List ℕ)) → length group ≡ 65536 → pieces ≡ first_chunks 16384 (length group / 16384) group →
+    leaf (get_or pieces 0 []) ∷ (leaf (get_or pieces 1 []) ∷ (leaf (get_or pieces 2 []) ∷ (leaf (get_or pieces 3 []) ∷ []))) ≡ leaves group
+unfolding parts
+leaves_four group pieces long e =
+    let four : length group / 16384 ≡ 4 = omega (arith, long) in
+    let count : piece_count (length group) ≡ 4 = omega (arith, long) in
+    rw (e, four, count) refl
 
 -- A group of pieces, as what was taken in.
 pub group_taken : (file group : List ℕ) (ds es : List (List ℕ)) (n : ℕ) → n % 16384 ≡ 0 → n ≡ length file → ds ≡ leaves file → es ≡ ds ++ leaves group → es ≡ leaves (file ++ group)

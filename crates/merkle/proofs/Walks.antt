@@ -1,11 +1,10 @@
 -- A walk from the root down to a place takes the digests of its path, one at each half, and ends with all of them.
-use Rattle.std.proofs.Common.{◌≡◌, ℕ, ◌-◌, ◌<◌, ◌≤◌, ◌⊎◌, List, [], ◌∷◌, ◌++◌, length, take, drop, ap, inl, inr, append-nil, arith, length-append}
+use Rattle.std.proofs.Common.{◌≡◌, ℕ, ◌-◌, ◌<◌, ◌≤◌, ◌⊎◌, List, [], ◌∷◌, ◌++◌, length, take, drop, ap, inl, inr, append-nil, arith, length-append, length-take}
 use lib.Seq.{append_snoc}
 use Rattle.std.proofs.lemmas.Bool.{cases_lt}
 use Rattle.swarm.specs.Tree.{cut}
 use Rattle.swarm.proofs.Cuts.{cut_between}
 use Rattle.bytetree.specs.ByteTree.{root, path}
-use Rattle.bytetree.proofs.Files.{length-parts}
 use Rattle.bytetree.proofs.Halves.{length_front, length_back, path_one, path_in_front, path_in_back}
 use Rattle.bytetree.proofs.Trees.{path-short}
 use Rattle.merkle.specs.Paths.{steps}
@@ -32,29 +31,30 @@ some_path m ds two = go (cases_lt m (cut (length ds)))
 -- There is room for one digest more, as long as the row has two or more.
 pub walk_room : {found : Path} {place : ℕ} {row whole : List (List ℕ)} → Walk found place row whole → 1 < length row → found.count < 16
 walk_room {found} {place} {row} w two =
-    omega (arith, length-parts 32 found.count found.bytes, w.short, simp length-append at (ap length w.leads), some_path place row two)
+    omega (arith, found.sized, found.few, length-take found.count found.digests, w.short, simp length-append at (ap length w.leads), some_path place row two)
 
 -- A walk goes on in the front of the row, if the place is there.
-pub walk_front : {found next : Path} {place k : ℕ} {row left whole : List (List ℕ)} → Walk found place row whole → 1 < length row → k ≡ cut (length row) → place < k →
-    left ≡ take k row → steps next ≡ steps found ++ (root (drop k row) ∷ []) → Walk next place left whole
-walk_front {found} {next} {place} {k} {row} {left} w two e h s n =
+pub walk_front : {found next : Path} {place k : ℕ} {row left right whole : List (List ℕ)} → Walk found place row whole → 1 < length row → left ≡ take (cut (length row)) row → right ≡ drop (cut (length row)) row →
+    place < k → k ≡ length left → steps next ≡ steps found ++ (root right ∷ []) → Walk next place left whole
+walk_front {found} {next} {place} {k} {row} {left} {right} w two f b h e n =
     let c = cut_between (length row) two in
     let l : length left ≡ cut (length row) = cc (length_front row two) in
     record {
-      leads = cc (w.leads, path_in_front place row two (omega arith), append_snoc (steps found) (root (drop k row)) (path place left));
+      leads = cc (w.leads, path_in_front place row two (omega arith), append_snoc (steps found) (root right) (path place left));
       short = w.short;
       there = omega arith;
       few = omega (arith, w.few);
     }
 
 -- Otherwise it goes on in the back.
-pub walk_back : {found next : Path} {place k : ℕ} {row right whole : List (List ℕ)} → Walk found place row whole → 1 < length row → k ≡ cut (length row) → k ≤ place →
-    right ≡ drop k row → steps next ≡ steps found ++ (root (take k row) ∷ []) → Walk next (place - k) right whole
-walk_back {found} {next} {place} {k} {row} {right} w two e h s n =
+pub walk_back : {found next : Path} {place k : ℕ} {row left right whole : List (List ℕ)} → Walk found place row whole → 1 < length row → left ≡ take (cut (length row)) row → right ≡ drop (cut (length row)) row →
+    k ≤ place → k ≡ length left → steps next ≡ steps found ++ (root left ∷ []) → Walk next (place - k) right whole
+walk_back {found} {next} {place} {k} {row} {left} {right} w two f b h e n =
     let c = cut_between (length row) two in
-    let l : length right ≡ length row - cut (length row) = cc (length_back row) in
+    let l : length left ≡ cut (length row) = cc (length_front row two) in
+    let r : length right ≡ length row - cut (length row) = cc (length_back row) in
     record {
-      leads = cc (w.leads, path_in_back place row two (omega arith), append_snoc (steps found) (root (take k row)) (path (place - k) right));
+      leads = cc (w.leads, path_in_back place row two (omega arith), append_snoc (steps found) (root left) (path (place - k) right));
       short = w.short;
       there = omega (arith, w.there);
       few = omega (arith, w.few);

@@ -1,5 +1,5 @@
 -- What was taken in of a file. Assumes nothing.
-use Rattle.std.specs.Prelude.{◌≡◌, ℕ, ◌+◌, ◌%◌, Bool, ◌&&◌, List, vec_items, ◌==◌, nat_le}
+use Rattle.std.specs.Prelude.{◌≡◌, ℕ, ◌+◌, ◌%◌, Bool, ◌&&◌, List, ◌++◌, vec_items, ◌==◌, nat_le}
 use Rattle.std.proofs.Math.ListN as Lists
 use Rattle.bytetree.specs.ByteTree.{leaves}
 use Rattle.merkle.specs.declared.digests.Digests.{Digests}
@@ -8,6 +8,12 @@ use Rattle.merkle.specs.declared.digests.Digests.{Digests}
 pub record Of (file : List ℕ) (d : Digests) : Type 0 where
   pub digests : vec_items d.leaves ≡ leaves file
   pub counted : d.taken ≡ Lists.length file
+
+-- what was taken in goes on by these bytes, of a file that stays as long
+pub record TakesIn (part : List ℕ) (before after : Digests) : Type 0 where
+  pub taken : (file : List ℕ) → Of file before → Of (file ++ part) after
+  pub counted : after.taken ≡ before.taken + Lists.length part
+  pub same : after.length ≡ before.length
 
 -- can so many bytes follow: what was taken in are whole pieces, and the file is long enough
 abbrev pub follows : Digests → ℕ → Bool

@@ -1,6 +1,6 @@
 // Whether a piece and its path lead to the root of a file.
 ghost use Rattle.std.specs.Prelude.{◌≡◌, ◌≤◌};
-ghost use Rattle.bytetree.specs.ByteTree.{Leads, digests, folds};
+ghost use Rattle.bytetree.specs.ByteTree.{Leads, folds};
 ghost use Rattle.bytetree.specs.Collision.{CollisionOrRight};
 ghost use Rattle.bytetree.specs.Image.{ImageOfTerms, OwnLeads};
 ghost use Rattle.merkle.specs.Decisions.{Decides};
@@ -10,21 +10,15 @@ use crate::tree::{leaf_of, node_over};
 use swarm::split;
 
 // What the path leads to from a digest at a place among so many; nothing where it is too long or too short for that place.
-fn folded(pieces: u32, place: u32, digest: [u8; 32], path: &[u8]) -> Option<[u8; 32]>
-    requires { pieces ≤ 65536 }
-    ensures { result ≡ folds pieces place digest (digests path.now) }
+fn folded(pieces: u32, place: u32, digest: [u8; 32], path: &[[u8; 32]]) -> Option<[u8; 32]>
+    ensures { result ≡ folds pieces place digest path.now }
 {
-    if path.len() < 32 {
-        return if pieces == 1 && place == 0 {
-            Some(digest)
-        } else {
-            None
-        };
-    }
+    let Some((sibling, below)) = path.split_first() else {
+        return (pieces == 1 && place == 0).then_some(digest);
+    };
     if pieces < 2 {
         return None;
     }
-    let (sibling, below) = path.split_at(32);
     let left = split(pieces);
     if place < left {
         let inner = folded(left, place, digest, below)?;
@@ -45,11 +39,9 @@ pub fn check(numbers: Numbers, place: u32, piece: &[u8], path: &[u8]) -> bool
     let Some(length) = numbers.piece_length(place) else {
         return false;
     };
-    if piece.len() != length as usize || path.len() % 32 != 0 {
+    let (digests, over) = path.as_chunks::<32>();
+    if piece.len() != length as usize || !over.is_empty() {
         return false;
     }
-    match folded(numbers.pieces(), place, leaf_of(piece), path) {
-        Some(top) => top == numbers.root(),
-        None => false,
-    }
+    folded(numbers.pieces(), place, leaf_of(piece), digests) == Some(numbers.root())
 }

@@ -1,11 +1,11 @@
 // The path of a piece, by value.
 ghost use Rattle.std.specs.Prelude.{◌≡◌, ◌≤◌, length};
 
-// At most sixteen digests as they are sent and kept, the one next to the root first.
+// At most sixteen digests, the one next to the root first; a path is passed by value, and nothing is allocated for it.
 #[derive(Clone, Copy)]
 pub struct Path {
-    pub(crate) bytes: [u8; 512],
+    pub(crate) digests: [[u8; 32]; 16],
     pub(crate) count: usize,
-    ghost sized: { length bytes ≡ 512 },
+    ghost sized: { length digests ≡ 16 },
     ghost few: { count ≤ 16 },
 }

@@ -1,11 +1,12 @@
 // What the numbers of a file say of its pieces.
-ghost use Rattle.std.specs.Prelude.{◌≡◌, ◌^◌, ◌<◌, ◌≤◌, is_ok, MatchResult};
+ghost use Rattle.std.specs.Prelude.{◌≡◌, ◌<◌, ◌≤◌, is_ok, MatchResult};
 ghost use Rattle.bytetree.specs.Image.{PiecesAddUp};
 ghost use Rattle.bytetree.specs.Pieces.{piece_count, piece_length};
-ghost use Rattle.merkle.specs.Lengths.{is_length};
+ghost use Rattle.merkle.specs.Lengths.{IsLength, is_length};
 ghost use Rattle.std.specs.Option as Options;
 ghost use Rattle.swarm.specs.Faults.{number};
 
+use crate::lengths::{PIECE, file_length, pieces_of};
 use crate::numbers::Numbers;
 use swarm::Fault;
 
@@ -15,16 +16,16 @@ impl Numbers {
         ensures taken { is_ok result ≡ is_length length }
         ensures made { MatchResult result (λ n. (n.length ≡ length) × (n.root ≡ root)) (λ e. (e ≡ Fault.BadSettings) × (number e ≡ 11)) }
     {
-        if length < 1 || length > 1073741824 {
-            return Err(Fault::BadSettings);
-        }
-        Ok(Numbers { length, root })
+        Ok(Numbers {
+            length: file_length(length)?,
+            root,
+        })
     }
 
     // How many bytes the file has.
     pub fn length(self) -> u64
         ensures same { result ≡ self.length }
-        ensures within { (1 ≤ result) × (result ≤ 2 ^ 30) }
+        ensures within { IsLength result }
     {
         self.length
     }
@@ -42,7 +43,7 @@ impl Numbers {
         ensures within { (1 ≤ result) × (result ≤ 65536) }
         ensures add_up { PiecesAddUp }
     {
-        ((self.length + 16383) / 16384) as u32
+        pieces_of(self.length)
     }
 
     // How many bytes piece m has; nothing where there is no such piece.
@@ -52,7 +53,8 @@ impl Numbers {
         if m >= self.pieces() {
             return None;
         }
-        let left = self.length - 16384 * u64::from(m);
-        Some(left.min(16384) as u32)
+        let piece = PIECE as u64;
+        let left = self.length - piece * u64::from(m);
+        Some(left.min(piece) as u32)
     }
 }

@@ -2,54 +2,83 @@
 ghost use Rattle.std.specs.Prelude.{◌≡◌};
 ghost use Rattle.swarm.specs.Faults.{number};
 
+use std::alloc::AllocError;
+use std::error::Error;
+use std::fmt;
+
 #[derive(Clone, Copy, PartialEq, Eq, Debug)]
 pub enum Fault {
     // An unknown kind, a bad length, a message that may not stand there, or a spare bit that is set.
-    BadMessage,
+    BadMessage = 1,
     // A piece that isn't there, or a length that isn't the piece's.
-    BadPiece,
+    BadPiece = 2,
     // Another root or another length.
-    OtherFile,
+    OtherFile = 3,
     // A path that leads elsewhere.
-    WrongPath,
+    WrongPath = 4,
     // A piece that wasn't asked for.
-    NotAsked,
+    NotAsked = 5,
     // An ask by one who isn't granted.
-    NotGranted,
+    NotGranted = 6,
     // Somebody banned.
-    Banned,
+    Banned = 7,
     // All 64 neighbors are there.
-    TooMany,
+    TooMany = 8,
     // A may of a round that isn't this or the one before.
-    WrongRound,
+    WrongRound = 9,
     // The disk doesn't write.
-    DiskFailed,
+    DiskFailed = 10,
     // Settings or a description that can't be.
-    BadSettings,
+    BadSettings = 11,
     // The tracker is full.
-    TrackerFull,
+    TrackerFull = 12,
     // There was no memory: no fault of the protocol, so it has none of its numbers.
-    NoMemory,
+    NoMemory = 0,
 }
 
 impl Fault {
     pub fn number(self) -> u8
         ensures { result ≡ number self }
     {
-        match self {
-            Fault::BadMessage => 1,
-            Fault::BadPiece => 2,
-            Fault::OtherFile => 3,
-            Fault::WrongPath => 4,
-            Fault::NotAsked => 5,
-            Fault::NotGranted => 6,
-            Fault::Banned => 7,
-            Fault::TooMany => 8,
-            Fault::WrongRound => 9,
-            Fault::DiskFailed => 10,
-            Fault::BadSettings => 11,
-            Fault::TrackerFull => 12,
-            Fault::NoMemory => 0,
-        }
+        self as u8
+    }
+}
+
+impl fmt::Display for Fault {
+    ghost use Rattle.std.specs.Prelude.{Some};
+    ghost use Rattle.swarm.specs.Faults.{in_words};
+
+    ghost output = { λ f. Some (in_words f) };
+
+    fn fmt<W: fmt::Write>(&self, f: &mut fmt::Formatter<W>) -> fmt::Result {
+        f.write_str(match self {
+            Fault::BadMessage => "the message is wrong",
+            Fault::BadPiece => "the piece isn't there or has another length",
+            Fault::OtherFile => "it is another file",
+            Fault::WrongPath => "the path leads elsewhere",
+            Fault::NotAsked => "the piece wasn't asked for",
+            Fault::NotGranted => "the neighbor isn't granted",
+            Fault::Banned => "the neighbor is banned",
+            Fault::TooMany => "all neighbors are there",
+            Fault::WrongRound => "it is the may of another round",
+            Fault::DiskFailed => "the disk doesn't write",
+            Fault::BadSettings => "such settings can't be",
+            Fault::TrackerFull => "the tracker is full",
+            Fault::NoMemory => "there is no memory",
+        })
+    }
+}
+
+impl Error for Fault {}
+
+// Want of memory is all that an allocator tells of.
+impl From<AllocError> for Fault {
+    ghost use Rattle.std.specs.Prelude.{◌≡◌};
+    ghost use Rattle.swarm.specs.declared.fault.Fault.TheVariants.{NoMemory};
+
+    ghost from_gives = { λ _ f. f ≡ NoMemory };
+
+    fn from(_refused: AllocError) -> Fault {
+        Self::NoMemory
     }
 }

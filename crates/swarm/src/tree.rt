@@ -17,9 +17,5 @@ pub fn split(pieces: u32) -> u32
     ensures exact { WayExact }
     ensures unique { WayUnique }
 {
-    let mut left = 1;
-    while left < pieces.saturating_sub(left) {
-        left += left;
-    }
-    left
+    pieces.div_ceil(2).next_power_of_two()
 }

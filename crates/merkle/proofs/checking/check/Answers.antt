@@ -1,47 +1,41 @@
 -- Each way out is one of the ways in which a piece and its path can lead to the root or not.
-use Rattle.std.proofs.Common.{sym, ◌∙◌}
-use Rattle.std.proofs.lemmas.Bool.Decides.{Decides-eqb}
-use Rattle.std.proofs.lemmas.Slice.Eq.{slice_eq-Decides}
+use Rattle.std.proofs.Common.{◌≡◌, length, sym, ◌∙◌, arith}
+use Rattle.std.proofs.lemmas.Bool.{eqb-true}
 use Rattle.bytetree.proofs.Collisions.{collision_or_right}
 use Rattle.bytetree.proofs.Digests.{own_leads}
 use Rattle.bytetree.proofs.Trees.{image_of_terms}
-use Rattle.merkle.proofs.Checks.{no_place, other_length, not_whole, leads_nowhere, leads-to}
+use Rattle.merkle.proofs.Checks.{found_it, leads_there}
 use Rattle.merkle.proofs.checking.check.Goals as goal
-use Rattle.merkle.proofs.checking.check.Goals.{then-piece-length-via-then-piece-length, then-piece-length-via-else-piece-length+then-path-ne0}
 
-pub returns-in_default : goal.returns-in_default
-returns-in_default c = record {
-  exact = no_place c.in_default.ensures;
-  right = collision_or_right;
-  own = own_leads;
-  image = image_of_terms;
-}
+pub returns-in_default-clause-right : goal.returns-in_default-clause-right
+returns-in_default-clause-right c = collision_or_right
 
-pub returns-then-piece-length : goal.returns-then-piece-length
-returns-then-piece-length c = record {
-  exact = elim c.then-piece-length.branch [
-    | then-piece-length-via-then-piece-length w ↦ other_length (λ e. w.if-piece-length.true (e ∙ sym c.in-Some.ensures.1))
-    | then-piece-length-via-else-piece-length+then-path-ne0 w ↦ not_whole w.if-path-ne0.true
-  ];
-  right = collision_or_right;
-  own = own_leads;
-  image = image_of_terms;
-}
+pub returns-in_default-clause-own : goal.returns-in_default-clause-own
+returns-in_default-clause-own c = own_leads
 
-pub returns-in-Some-folded : goal.returns-in-Some-folded
-returns-in-Some-folded c = record {
-  exact = leads-to c.pieces.ensures.counted c.leaf_of.ensures c.eq.result
-      c.in-Some.ensures.0 (c.if-piece-length.false ∙ c.in-Some.ensures.1) c.if-path-ne0.false c.in-Some-folded.ensures
-      (rw c.root.ensures at (slice_eq-Decides Decides-eqb c.in-Some-folded.top c.root.result c.eq.result c.eq.ensures));
-  right = collision_or_right;
-  own = own_leads;
-  image = image_of_terms;
-}
+pub returns-in_default-clause-image : goal.returns-in_default-clause-image
+returns-in_default-clause-image c = image_of_terms
 
-pub returns-in-None : goal.returns-in-None
-returns-in-None c = record {
-  exact = leads_nowhere c.pieces.ensures.counted c.leaf_of.ensures c.in-None.ensures;
-  right = collision_or_right;
-  own = own_leads;
-  image = image_of_terms;
-}
+pub returns-then-piece-length-clause-right : goal.returns-then-piece-length-clause-right
+returns-then-piece-length-clause-right c = collision_or_right
+
+pub returns-then-piece-length-clause-own : goal.returns-then-piece-length-clause-own
+returns-then-piece-length-clause-own c = own_leads
+
+pub returns-then-piece-length-clause-image : goal.returns-then-piece-length-clause-image
+returns-then-piece-length-clause-image c = image_of_terms
+
+pub returns-clause-right : goal.returns-clause-right
+returns-clause-right c = collision_or_right
+
+pub returns-clause-own : goal.returns-clause-own
+returns-clause-own c = own_leads
+
+pub returns-clause-image : goal.returns-clause-image
+returns-clause-image c = image_of_terms
+
+pub returns-clause-exact : goal.returns-clause-exact
+returns-clause-exact c =
+    let empty : length c.as_chunks.result.1.now ≡ 0 = eqb-true _ _ (sym c.if-not-is_empty.ensures) in
+    let same = rw c.root.ensures at (found_it c.folded.result c.root.result c.eq.result c.eq.ensures) in
+    leads_there c.eq.result c.in-Some.ensures.0 (c.if-piece-length.false ∙ c.in-Some.ensures.1) (omega (arith, c.as_chunks.ensures.back_len)) c.pieces.ensures.counted c.leaf_of.ensures c.as_chunks.ensures.front c.folded.ensures same

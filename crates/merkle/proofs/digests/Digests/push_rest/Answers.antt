@@ -1,26 +1,17 @@
-use Rattle.std.proofs.Common.{◌≡◌, length, sym, ◌∙◌, arith}
-use Rattle.std.proofs.lemmas.Bool.{eqb-true}
-use Rattle.merkle.proofs.Growing.{both-taken, front_taken}
+use Rattle.std.proofs.Common.{◌≡◌, ◌+◌, length, ap, ◌∙◌, arith}
+use Rattle.std.proofs.lemmas.List.{length-append}
+use Rattle.std.specs.Slice.Iter.{chunks_rest}
+use Rattle.merkle.proofs.Growing.{reached_none, reached_more, reached_long}
 use Rattle.merkle.proofs.digests.Digests.push_rest.Goals as goal
 
-pub returns-then-not-is_empty : goal.returns-then-not-is_empty
-returns-then-not-is_empty c =
-    let cut = c.split_at.ensures in
-    let first = c.push_each.ensures in
-    let second = c.push.ensures in
-    record {
-      taken = both-taken _ _ _ _ _ _ cut.by_index.0 first.taken second.taken;
-      counted = omega (arith, first.counted, second.counted, cut.front_len, cut.back_len);
-      same = second.same ∙ first.same;
-    }
+pub loop-piece-init : goal.loop-piece-init
+loop-piece-init c =
+    let all : chunks_rest c.into_iter-piece-iterator.result ≡ c.args.part.now = cc in
+    (reached_none _ _ _ all, λ some. omega (arith, ap length all), cc)
 
-pub returns-else-not-is_empty : goal.returns-else-not-is_empty
-returns-else-not-is_empty c =
-    let cut = c.split_at.ensures in
-    let first = c.push_each.ensures in
-    let none : length c.split_at.result.1.now ≡ 0 = eqb-true _ _ (sym c.if-not-is_empty.ensures) in
-    record {
-      taken = front_taken _ _ _ _ _ cut.by_index.0 none first.taken;
-      counted = omega (arith, first.counted, none, cut.front_len, cut.back_len);
-      same = first.same;
-    }
+pub loop-piece-preserved : goal.loop-piece-preserved
+loop-piece-preserved c =
+    let (reached, even, size) = c.loop-piece.invariant in
+    let step = c.in-Some.ensures.steps in
+    let less : length (chunks_rest c.loop-piece.piece-iterator) ≡ length c.in-Some.piece.now + length (chunks_rest c.next.new.self) = ap length step.1.0 ∙ length-append c.in-Some.piece.now (chunks_rest c.next.new.self) in
+    (reached_more c.in-Some.piece.now (chunks_rest c.next.new.self) reached step.1.0 c.push.ensures, λ some. omega (arith, even step.1.2, step.1.1, less, reached_long reached), cc)

@@ -1,6 +1,0 @@
-use Rattle.std.proofs.Common.{◌*◌}
-use Rattle.merkle.proofs.Growing.{Grew}
-use Rattle.merkle.proofs.digests.Digests.push_fours.Given as goal
-
-abbrev pub invariant-loop-i : goal.invariant-loop-i
-invariant-loop-i l = Grew l.initial.self l.self l.part (65536 * l.i)
