@@ -1,26 +1,29 @@
--- A stream's end: the bytes of a hash value one after the other, and the padding part by part.
-use Rattle.std.proofs.Common.{◌≡◌, ℕ, zero, suc, ◌+◌, ◌-◌, ◌*◌, ◌/◌, ◌%◌, ◌^◌, ◌<◌, ◌≤◌, List, [], ◌∷◌, ◌++◌, length, get_or, take, replicate, sym, refl, ap, ◌∙◌, subst, ap₂, arith}
+-- A stream's end: the bytes of a hash value by their places, and the padding part by part.
+use Rattle.std.proofs.Common.{◌≡◌, ℕ, zero, suc, ◌-◌, ◌*◌, ◌/◌, ◌%◌, ◌^◌, ◌<◌, ◌≤◌, List, [], ◌∷◌, ◌++◌, length, get_or, take, replicate, sym, refl, ap, ◌∙◌, subst, arith}
 use native.Mathlib.Nat.{div-div-eq-div-mul}
-use Rattle.std.proofs.lemmas.List.{append_assoc, take_more}
-use borrow.Rule.Slice.PartMut.{put_mid}
-use Rattle.std.proofs.lemmas.Slice.{take-put_mid}
+use Rattle.std.proofs.lemmas.List.{append_assoc}
+use Rattle.std.proofs.lemmas.Grind.{same_number_lists}
 use Rattle.sha256.specs.Sha256.{word_bytes, bytes, pad, digest}
 use Rattle.sha256.specs.Streams.{Taken}
+use Rattle.sha256.proofs.Laws.{length-bytes}
+use Rattle.sha256.specs.declared.stream.Stream.{Stream}
 
-bytes_push : (ws : List ℕ) (w : ℕ) → bytes (ws ++ (w ∷ [])) ≡ bytes ws ++ word_bytes w
+get_or-bytes : (ws : List ℕ) (i : ℕ) → i < 4 * length ws → get_or (bytes ws) i 0 ≡ get_or (word_bytes (get_or ws (i / 4) 0)) (i % 4) 0
 unfolding bytes
-bytes_push [] w = refl
-bytes_push (v ∷ ws) w = ap (λ (xs : List ℕ). word_bytes v ++ xs) (bytes_push ws w)
+get_or-bytes [] i h = absurd (omega arith)
+get_or-bytes (w ∷ ws) zero h = refl
+get_or-bytes (w ∷ ws) (suc zero) h = refl
+get_or-bytes (w ∷ ws) (suc (suc zero)) h = refl
+get_or-bytes (w ∷ ws) (suc (suc (suc zero))) h = refl
+get_or-bytes (w ∷ ws) (suc (suc (suc (suc i)))) h =
+    let place : suc (suc (suc (suc i))) / 4 ≡ suc (i / 4) = omega arith in
+    let left : suc (suc (suc (suc i))) % 4 ≡ i % 4 = omega arith in
+    rw (place, left) (get_or-bytes ws i (omega arith))
 
--- One word more.
-pub bytes-more : (out value word : List ℕ) (i k n : ℕ) → length value ≡ 8 → length out ≡ 32 → i < 8 → n ≡ 4 * i + 4 → take (4 * i) out ≡ bytes (take i value) → word ≡ word_bytes (get_or value i 0) →
-    take n (put_mid (4 * i) k out word) ≡ bytes (take (i + 1) value)
-bytes-more out value word i k n l m lt e p q =
-    let long : length word ≡ 4 = ap length q in
-    let front : take n (put_mid (4 * i) k out word) ≡ take (4 * i) out ++ word = take-put_mid (4 * i) k out word n (omega (arith, long)) (omega arith) in
-    let next : bytes (take (i + 1) value) ≡ bytes (take i value) ++ word_bytes (get_or value i 0) =
-    ap bytes (take_more value i 0 (omega arith)) ∙ bytes_push (take i value) (get_or value i 0) in
-    front ∙ ap₂ (λ (xs ys : List ℕ). xs ++ ys) p q ∙ sym next
+-- The bytes of a hash value, each by its place.
+pub bytes_are : (value out : List ℕ) → length value ≡ 8 → length out ≡ 32 → ((i : ℕ) → i < 32 → get_or out i 0 ≡ get_or (word_bytes (get_or value (i / 4) 0)) (i % 4) 0) → out ≡ bytes value
+bytes_are value out l m each =
+    same_number_lists out (bytes value) (omega (arith, l, m, length-bytes value)) (λ i h. each i (omega (arith, m)) ∙ sym (get_or-bytes value i (omega (arith, l, m))))
 
 -- The number of bits in eight bytes is that in two words.
 pub bits_are : (x : ℕ) →
@@ -29,12 +32,12 @@ pub bits_are : (x : ℕ) →
 bits_are x = rw (div-div-eq-div-mul x 4294967296 16777216, div-div-eq-div-mul x 4294967296 65536, div-div-eq-div-mul x 4294967296 256) refl
 
 -- The padding, part by part.
-pub ended : {value rest : List ℕ} {count : ℕ} (m zeros bits : List ℕ) → zeros ≡ replicate ((119 - length m % 64) % 64) 0 → bits ≡ word_bytes (8 * length m / 2 ^ 32) ++ word_bytes (8 * length m) →
-    Taken (((m ++ (128 ∷ [])) ++ zeros) ++ bits) value rest count → bytes value ≡ digest m
+pub ended : {s : Stream} (m zeros bits : List ℕ) → zeros ≡ replicate ((119 - length m % 64) % 64) 0 → bits ≡ word_bytes (8 * length m / 2 ^ 32) ++ word_bytes (8 * length m) →
+    Taken (((m ++ (128 ∷ [])) ++ zeros) ++ bits) s → bytes s.value ≡ digest m
 unfolding digest
-ended {value} {rest} {count} m zeros bits p q t =
+ended {s} m zeros bits p q t =
     let same : ((m ++ (128 ∷ [])) ++ zeros) ++ bits ≡ pad m = rw (append_assoc (m ++ (128 ∷ [])) zeros bits, append_assoc m (128 ∷ []) (zeros ++ bits), p, q) refl in
-    ap bytes (subst (λ (xs : List ℕ). Taken xs value rest count) same t).hashes
+    ap bytes (subst (λ (xs : List ℕ). Taken xs s) same t).hashes
 
 take-replicate : (k n d : ℕ) → k ≤ n → take k (replicate n d) ≡ replicate k d
 take-replicate zero n d le = refl

@@ -23,7 +23,8 @@ unfolding hashed initial
 length-hashed bs zero = refl
 length-hashed bs (suc i) = length-compress (hashed bs i) (block bs i) (length-hashed bs i)
 
-length-bytes : (ws : List ℕ) → length (bytes ws) ≡ 4 * length ws
+-- Each word has four bytes.
+pub length-bytes : (ws : List ℕ) → length (bytes ws) ≡ 4 * length ws
 unfolding bytes
 length-bytes [] = refl
 length-bytes (w ∷ ws) = omega (arith, length-bytes ws)

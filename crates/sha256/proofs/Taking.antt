@@ -1,103 +1,119 @@
 -- A stream that takes in a part has taken in that part behind the others.
-use Rattle.std.proofs.Common.{◌≡◌, ℕ, zero, suc, ◌+◌, ◌*◌, ◌/◌, ◌%◌, ◌<◌, ◌≤◌, List, ◌++◌, length, take, drop, sym, refl, ap, ◌∙◌, subst, ap₂, add-one, arith}
-use Rattle.std.proofs.lemmas.List.{length-append, drop-append-le, take_all, drop_all, drop_at, drop-drop, append_assoc}
-use Rattle.sha256.specs.Sha256.{hashed, compress, words, block}
-use Rattle.sha256.specs.Streams.{Taken, after}
-use Rattle.sha256.proofs.Streams.{hashed_front}
+use Rattle.std.proofs.Common.{◌≡◌, ℕ, zero, suc, ◌+◌, ◌*◌, ◌/◌, ◌%◌, ◌<◌, ◌≤◌, List, [], ◌∷◌, ◌++◌, length, get_or, take, drop, sym, refl, ap, ◌∙◌, subst, ap₂, arith}
+use Rattle.std.proofs.lemmas.List.{length-append, drop-append-le, take_all, drop_all, drop-take, take-take, take-append-drop, append_assoc, append-nil}
+use Rattle.std.specs.List.{flat_map}
+use Rattle.std.specs.Simd.{first_chunks}
+use Rattle.sha256.specs.Sha256.{hashed, compress, words}
+use Rattle.sha256.specs.Streams.{Adds, Taken, after}
+use Rattle.sha256.specs.declared.stream.Stream.{Stream}
+use Rattle.sha256.proofs.Streams.{hashed_front, hashed-next}
 
--- What is at hand, with a part behind it, is what the longer stream has at hand.
-module _ (m part value rest rest' : List ℕ) (count : ℕ) (t : Taken m value rest count)
-    (e : take (count % 64 + length part) rest' ≡ take (count % 64) rest ++ part) where
-  long : length (m ++ part) ≡ count + length part
-  long = length-append m part ∙ ap (λ (k : ℕ). k + length part) (sym t.counted)
+-- A stream whose block has a part put behind what is at hand.
+module _ (m part : List ℕ) (s t : Stream) (h : Taken m s) (more : t.count ≡ s.count + length part)
+    (put : take (s.count % 64 + length part) t.rest ≡ take (s.count % 64) s.rest ++ part) where
+  long : length (m ++ part) ≡ s.count + length part
+  long = length-append m part ∙ ap (λ (k : ℕ). k + length part) (sym h.counted)
 
-  joined : take (count % 64 + length part) rest' ≡ drop (64 * (count / 64)) (m ++ part)
+  joined : take (s.count % 64 + length part) t.rest ≡ drop (64 * (s.count / 64)) (m ++ part)
   joined =
-      let fits : 64 * (count / 64) ≤ length m = omega (arith, t.counted) in
-      let held : take (count % 64) rest ≡ drop (64 * (count / 64)) m = rw t.counted t.held in
-      e ∙ ap (λ (xs : List ℕ). xs ++ part) held ∙ sym (drop-append-le (64 * (count / 64)) m part fits)
+      let fits : 64 * (s.count / 64) ≤ length m = omega (arith, h.counted) in
+      let held : take (s.count % 64) s.rest ≡ drop (64 * (s.count / 64)) m = rw h.counted h.held in
+      put ∙ ap (λ (xs : List ℕ). xs ++ part) held ∙ sym (drop-append-le (64 * (s.count / 64)) m part fits)
 
-  before : value ≡ hashed (m ++ part) (count / 64)
+  before : s.value ≡ hashed (m ++ part) (s.count / 64)
   before =
       let fits : 64 * (length m / 64) ≤ length m = omega arith in
-      t.hashes ∙ sym (hashed_front m part (length m / 64) fits) ∙ ap (λ (k : ℕ). hashed (m ++ part) (k / 64)) (sym t.counted)
+      h.hashes ∙ sym (hashed_front m part (length m / 64) fits) ∙ ap (λ (k : ℕ). hashed (m ++ part) (k / 64)) (sym h.counted)
 
   -- A part that leaves the block open.
-  pub taken_within : count % 64 + length part < 64 → Taken (m ++ part) value rest' (count + length part)
-  taken_within lt =
-      let blocks : length (m ++ part) / 64 ≡ count / 64 = omega (arith, long) in
-      let more : length (m ++ part) % 64 ≡ count % 64 + length part = omega (arith, long) in
-      record { hashes = rw blocks before; held = rw (blocks, more) joined; counted = sym long }
+  pub taken_within : s.count % 64 + length part < 64 → t.value ≡ s.value → Taken (m ++ part) t
+  taken_within lt same =
+      let blocks : length (m ++ part) / 64 ≡ s.count / 64 = omega (arith, long) in
+      let left : length (m ++ part) % 64 ≡ s.count % 64 + length part = omega (arith, long) in
+      record { hashes = rw blocks (same ∙ before); held = rw (blocks, left) joined; counted = more ∙ sym long }
 
   -- A part that fills the block.
-  pub taken-whole : count % 64 + length part ≡ 64 → length rest' ≡ 64 → Taken (m ++ part) (compress value (words rest')) rest' (count + length part)
+  pub taken-whole : s.count % 64 + length part ≡ 64 → length t.rest ≡ 64 → t.value ≡ compress s.value (words t.rest) → Taken (m ++ part) t
   unfolding hashed
-  taken-whole full l =
-      let blocks : length (m ++ part) / 64 ≡ suc (count / 64) = omega (arith, long) in
+  taken-whole full l next =
+      let blocks : length (m ++ part) / 64 ≡ suc (s.count / 64) = omega (arith, long) in
       let none : length (m ++ part) % 64 ≡ 0 = omega (arith, long) in
-      let end : length (m ++ part) ≤ 64 * suc (count / 64) = omega (arith, long) in
-      let here = take_all 64 rest' (omega (arith, l)) in
-      let filled : rest' ≡ drop (64 * (count / 64)) (m ++ part) = sym here ∙ (rw full at joined) in
-      let whole : rest' ≡ take 64 (drop (64 * (count / 64)) (m ++ part)) = sym here ∙ ap (take 64) filled in
+      let end : length (m ++ part) ≤ 64 * suc (s.count / 64) = omega (arith, long) in
+      let here = take_all 64 t.rest (omega (arith, l)) in
+      let filled : t.rest ≡ drop (64 * (s.count / 64)) (m ++ part) = sym here ∙ (rw full at joined) in
+      let whole : t.rest ≡ take 64 (drop (64 * (s.count / 64)) (m ++ part)) = sym here ∙ ap (take 64) filled in
       record {
-        hashes = rw blocks (ap₂ (λ (v b : List ℕ). compress v (words b)) before whole);
-        held = rw (blocks, none) (sym (drop_all (64 * suc (count / 64)) (m ++ part) end));
-        counted = sym long;
+        hashes = rw blocks (next ∙ ap₂ (λ (v b : List ℕ). compress v (words b)) before whole);
+        held = rw (blocks, none) (sym (drop_all (64 * suc (s.count / 64)) (m ++ part) end));
+        counted = more ∙ sym long;
       }
 
--- One block more behind a hash value.
-pub after_more : (value bs v r : List ℕ) (i n : ℕ) → n ≡ 64 → v ≡ after value bs i → r ≡ compress v (words (take n (drop (64 * i) bs))) → r ≡ after value bs (i + 1)
-unfolding after
-after_more value bs v r i n e p q =
-    q ∙ ap₂ (λ (u : List ℕ) (k : ℕ). compress u (words (take k (drop (64 * i) bs)))) p e ∙ ap (after value bs) (sym (add-one i))
+-- The bytes of blocks.
+abbrev pub flat : List (List ℕ) → List ℕ
+flat blocks = flat_map (λ b. b) blocks
 
--- A block alone.
-pub after_one : (value bs : List ℕ) → length bs ≡ 64 → after value bs (length bs / 64) ≡ compress value (words bs)
-unfolding after
-after_one value bs l =
-    let one : length bs / 64 ≡ 1 = omega (arith, l) in
-    ap (after value bs) one ∙ ap (λ (xs : List ℕ). compress value (words xs)) (take_all 64 bs (omega (arith, l)))
+-- Each block has 64 bytes.
+abbrev pub Whole : List (List ℕ) → Type 0
+Whole blocks = (i : ℕ) → i < length blocks → length (get_or blocks i []) ≡ 64
 
--- Whole blocks behind whole blocks.
-module _ (m part value rest : List ℕ) (count : ℕ) (t : Taken m value rest count) (even : count % 64 ≡ 0) where
-  together : length (m ++ part) ≡ count + length part
-  together = length-append m part ∙ ap (λ (k : ℕ). k + length part) (sym t.counted)
+flat_even : (blocks : List (List ℕ)) → Whole blocks → length (flat blocks) % 64 ≡ 0
+flat_even [] w = refl
+flat_even (b ∷ bs) w = omega (arith, length-append b (flat bs), w 0 (omega arith), flat_even bs (λ i h. w (suc i) (omega arith)))
 
-  pub no_block : value ≡ hashed (m ++ part) (count / 64 + 0)
-  no_block =
-      let fits : 64 * (length m / 64) ≤ length m = omega arith in
-      let same : length m / 64 ≡ count / 64 + 0 = omega (arith, t.counted) in
-      t.hashes ∙ sym (hashed_front m part (length m / 64) fits) ∙ ap (hashed (m ++ part)) same
+-- Blocks behind whole blocks.
+pub after-hashed : (m : List ℕ) (blocks : List (List ℕ)) → length m % 64 ≡ 0 → Whole blocks → after (hashed m (length m / 64)) blocks ≡ hashed (m ++ flat blocks) (length (m ++ flat blocks) / 64)
+after-hashed m [] even w = ap (λ (xs : List ℕ). hashed xs (length xs / 64)) (sym (append-nil m))
+after-hashed m (b ∷ bs) even w =
+    let long : length b ≡ 64 = w 0 (omega arith) in
+    ap (λ (v : List ℕ). after v bs) (sym (hashed-next m b even long))
+    ∙ after-hashed (m ++ b) bs (omega (arith, length-append m b, long)) (λ i h. w (suc i) (omega arith))
+    ∙ ap (λ (xs : List ℕ). hashed xs (length xs / 64)) (append_assoc m b (flat bs))
 
-  pub one_block : (i n : ℕ) (v r : List ℕ) → n ≡ 64 → v ≡ hashed (m ++ part) (count / 64 + i) → r ≡ compress v (words (take n (drop (64 * i) part))) → r ≡ hashed (m ++ part) (count / 64 + (i + 1))
-  unfolding hashed
-  one_block i n v r e h p =
-      let next : suc (count / 64 + i) ≡ count / 64 + (i + 1) = omega arith in
-      let place : 64 * (count / 64 + i) ≡ length m + 64 * i = omega (arith, t.counted) in
-      let there : drop (64 * i) part ≡ drop (64 * (count / 64 + i)) (m ++ part) =
-      rw place (ap (drop (64 * i)) (sym (drop_at m part (length m) refl)) ∙ drop-drop (64 * i) (length m) (m ++ part)) in
-      p ∙ ap₂ (λ (k : ℕ) (xs : List ℕ). compress v (words (take k xs))) e there ∙ ap (λ (u : List ℕ). compress u (block (m ++ part) (count / 64 + i))) h ∙ ap (hashed (m ++ part)) next
+-- A stream takes in whole blocks where none is begun.
+pub taken_blocks : (blocks : List (List ℕ)) (s t : Stream) → s.count % 64 ≡ 0 → Whole blocks → t.value ≡ after s.value blocks → t.count ≡ s.count + length (flat blocks) → Adds (flat blocks) s t
+taken_blocks blocks s t even w next more = record { taken = taken; counted = more }
+  where
+    taken : (m : List ℕ) → Taken m s → Taken (m ++ flat blocks) t
+    taken m h =
+        let whole : length m % 64 ≡ 0 = omega (arith, h.counted) in
+        let long = length-append m (flat blocks) in
+        let none : length (m ++ flat blocks) % 64 ≡ 0 = omega (arith, long, flat_even blocks w) in
+        let end : length (m ++ flat blocks) ≤ 64 * (length (m ++ flat blocks) / 64) = omega arith in
+        record {
+          hashes = next ∙ ap (λ (v : List ℕ). after v blocks) h.hashes ∙ after-hashed m blocks whole w;
+          held = rw none (sym (drop_all (64 * (length (m ++ flat blocks) / 64)) (m ++ flat blocks) end));
+          counted = more ∙ ap (λ (k : ℕ). k + length (flat blocks)) h.counted ∙ sym long;
+        }
 
-  -- As many blocks as there are, each after the other.
-  pub some_blocks : (i : ℕ) → after value part i ≡ hashed (m ++ part) (count / 64 + i)
-  unfolding after
-  some_blocks zero = no_block
-  some_blocks (suc i) = one_block i 64 (after value part i) (after value part (suc i)) refl (some_blocks i) refl ∙ ap (λ (k : ℕ). hashed (m ++ part) (count / 64 + k)) (add-one i)
+-- The same where there may be no blocks.
+pub taken_some : (blocks : List (List ℕ)) (s t : Stream) → (0 < length blocks → s.count % 64 ≡ 0) → Whole blocks → t.value ≡ after s.value blocks → t.rest ≡ s.rest → t.count ≡ s.count + length (flat blocks) → Adds (flat blocks) s t
+taken_some [] s t even w next same more = record {
+  taken = λ m h. subst (λ (xs : List ℕ). Taken xs t) (sym (append-nil m)) (record { hashes = next ∙ h.hashes; held = ap (take (length m % 64)) same ∙ h.held; counted = omega (arith, more, h.counted) });
+  counted = more;
+}
+taken_some (b ∷ bs) s t even w next same more = taken_blocks (b ∷ bs) s t (even (omega arith)) w next more
 
-  pub all_blocks : (n : ℕ) (v : List ℕ) → length part % 64 ≡ 0 → n ≡ length part / 64 → v ≡ hashed (m ++ part) (count / 64 + n) → Taken (m ++ part) v rest (count + length part)
-  all_blocks n v even' e h =
-      let blocks : length (m ++ part) / 64 ≡ count / 64 + n = omega (arith, together) in
-      let none : length (m ++ part) % 64 ≡ 0 = omega (arith, together) in
-      let end : length (m ++ part) ≤ 64 * (count / 64 + n) = omega (arith, together) in
-      record {
-        hashes = rw blocks h;
-        held = rw (blocks, none) (sym (drop_all (64 * (count / 64 + n)) (m ++ part) end));
-        counted = sym together;
-      }
+-- The bytes of the first blocks of a part.
+pub flat-first_chunks : (k : ℕ) (xs : List ℕ) → flat (first_chunks 64 k xs) ≡ take (k * 64) xs
+flat-first_chunks zero xs = refl
+flat-first_chunks (suc k) xs =
+    let n = 64 + k * 64 in
+    let long : n ≡ suc k * 64 = omega arith in
+    ap₂ ◌++◌ (sym (take-take 64 n xs (omega arith))) (flat-first_chunks k (drop 64 xs) ∙ sym (drop-take 64 (k * 64) xs))
+    ∙ take-append-drop 64 (take n xs) ∙ ap (λ (j : ℕ). take j xs) long
 
--- The same bytes, cut in another way.
-pub taken_in_three : {value rest : List ℕ} {count : ℕ} (m part front others blocks back : List ℕ) → part ≡ front ++ others → others ≡ blocks ++ back →
-    Taken (((m ++ front) ++ blocks) ++ back) value rest count → Taken (m ++ part) value rest count
-taken_in_three {value} {rest} {count} m part front others blocks back p q t =
-    let same : ((m ++ front) ++ blocks) ++ back ≡ m ++ part = rw (p, q, append_assoc (m ++ front) blocks back, append_assoc m front (blocks ++ back)) refl in
-    subst (λ (xs : List ℕ). Taken xs value rest count) same t
+-- A part is its blocks and what is left behind them.
+pub cut : (part back : List ℕ) (blocks : List (List ℕ)) → blocks ≡ first_chunks 64 (length part / 64) part → back ≡ drop (length part / 64 * 64) part → part ≡ flat blocks ++ back
+cut part back blocks p q =
+    sym (take-append-drop (length part / 64 * 64) part) ∙ ap₂ ◌++◌ (sym (ap flat p ∙ flat-first_chunks (length part / 64) part)) (sym q)
+
+-- How long the two are.
+pub length-cut : (part back : List ℕ) (blocks : List (List ℕ)) → blocks ≡ first_chunks 64 (length part / 64) part → back ≡ drop (length part / 64 * 64) part → length (flat blocks) + length back ≡ length part
+length-cut part back blocks p q = sym (ap length (cut part back blocks p q) ∙ length-append (flat blocks) back)
+
+-- Parts one after the other.
+pub adds_both : {p q whole : List ℕ} {r s t : Stream} → Adds p r s → Adds q s t → whole ≡ p ++ q → Adds whole r t
+adds_both {p} {q} {whole} {r} {s} {t} a b e = record {
+  taken = λ m h. subst (λ (xs : List ℕ). Taken xs t) (append_assoc m p q ∙ ap (λ (xs : List ℕ). m ++ xs) (sym e)) (b.taken (m ++ p) (a.taken m h));
+  counted = omega (arith, a.counted, b.counted, length-append p q, ap length e);
+}

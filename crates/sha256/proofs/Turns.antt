@@ -21,51 +21,54 @@ unfolding rounds
 rounds-more ws h vs t x p q = ap₂ (λ (y : ℕ) (us : List ℕ). round (get_or constants t 0) y us) q p ∙ ap (rounds ws h) (sym (add-one t))
 
 -- A round with a word of the block's own.
-pub first-turned : (ws h vs vs' w : List ℕ) (i : ℕ) → length ws ≡ 16 → i < 16 → Started ws h i vs w → vs' ≡ round (get_or constants i 0) (get_or w i 0) vs → Started ws h (i + 1) vs' w
-first-turned ws h vs vs' w i l lt s e =
-    record { done = e ∙ rounds-more ws h vs i (get_or w i 0) s.done (ap (λ (xs : List ℕ). get_or xs i 0) s.all ∙ sym (own_word ws i l lt)); all = s.all }
+pub first-turned : (ws h vs vs' w : List ℕ) (i x : ℕ) → length ws ≡ 16 → i < 16 → Started ws h i vs w → x ≡ get_or w i 0 → vs' ≡ round (get_or constants i 0) x vs → Started ws h (i + 1) vs' w
+first-turned ws h vs vs' w i x l lt s p e =
+    record { done = e ∙ rounds-more ws h vs i x s.done (p ∙ ap (λ (xs : List ℕ). get_or xs i 0) s.all ∙ sym (own_word ws i l lt)); all = s.all }
 
 -- After sixteen rounds the block's words are the sixteen at hand.
 pub all-started : (ws h : List ℕ) {vs w : List ℕ} → length ws ≡ 16 → Started ws h 16 vs w → Done ws h 0 vs w
 all-started ws h {vs} {w} l s = record { done = s.done; ring = λ j lt. simp (zero-add, mod-eq_of_lt lt) (ap (λ (xs : List ℕ). get_or xs j 0) s.all ∙ sym (own_word ws j l lt)); sized = ap length s.all ∙ l }
 
 -- A round with one word more, which takes the place of the oldest.
-pub turned : (ws h vs vs' w : List ℕ) (n t i : ℕ) → length ws ≡ 16 → n ≡ t + i → i < 16 → t ≤ 32 → t % 16 ≡ 0 → Done ws h n vs w → vs' ≡ round (get_or constants (t + 16 + i) 0) (next_in w i) vs →
-    Done ws h (n + 1) vs' (set w i (next_in w i))
-turned ws h vs vs' w n t i l p lt le m d e = record { done = e ∙ done; ring = ring; sized = length-set w i (next_in w i) ∙ d.sized }
+pub turned : (ws h vs vs' w : List ℕ) (t i x : ℕ) → length ws ≡ 16 → i < 16 → t ≤ 32 → t % 16 ≡ 0 → Done ws h (t + i) vs w → x ≡ next_in w i → vs' ≡ round (get_or constants (t + 16 + i) 0) x vs →
+    Done ws h (t + (i + 1)) vs' (set w i x)
+turned ws h vs vs' w t i x l lt le m d q e = record { done = e ∙ done; ring = ring; sized = length-set w i x ∙ d.sized }
   where
+    n : ℕ
+    n = t + i
+
     place : (j : ℕ) → (n + j) % 16 ≡ (i + j) % 16
-    place j = omega (arith, m, p)
+    place j = omega (arith, m)
 
     at : (j : ℕ) → j < 16 → get_or w ((i + j) % 16) 0 ≡ get_or (schedule ws 48) (n + j) 0
     at j h = ap (λ (k : ℕ). get_or w k 0) (sym (place j)) ∙ d.ring j h
 
-    word-is : next_in w i ≡ get_or (schedule ws 48) (n + 16) 0
+    word-is : x ≡ get_or (schedule ws 48) (n + 16) 0
     word-is =
         let oldest : get_or w i 0 ≡ get_or (schedule ws 48) n 0 = simp (add-zero, mod-eq_of_lt lt) at (at 0 (omega arith)) in
         let same : next_in w i ≡ next_word (schedule ws 48) n = cc (at 14 (omega arith), at 9 (omega arith), at 1 (omega arith), oldest) in
-        same ∙ sym (schedule-next ws n l (omega arith))
+        q ∙ same ∙ sym (schedule-next ws n l (omega arith))
 
-    done : round (get_or constants (t + 16 + i) 0) (next_in w i) vs ≡ rounds ws h (n + 1 + 16)
+    done : round (get_or constants (t + 16 + i) 0) x vs ≡ rounds ws h (t + (i + 1) + 16)
     done =
         let constant : t + 16 + i ≡ n + 16 = omega arith in
-        let count : n + 16 + 1 ≡ n + 1 + 16 = omega arith in
-        ap (λ (k : ℕ). round (get_or constants k 0) (next_in w i) vs) constant ∙ rounds-more ws h vs (n + 16) (next_in w i) d.done word-is ∙ ap (rounds ws h) count
+        let count : n + 16 + 1 ≡ t + (i + 1) + 16 = omega arith in
+        ap (λ (k : ℕ). round (get_or constants k 0) x vs) constant ∙ rounds-more ws h vs (n + 16) x d.done word-is ∙ ap (rounds ws h) count
 
-    newest : (j : ℕ) → j ≡ 15 → get_or (set w i (next_in w i)) ((n + 1 + j) % 16) 0 ≡ get_or (schedule ws 48) (n + 1 + j) 0
+    newest : (j : ℕ) → j ≡ 15 → get_or (set w i x) ((t + (i + 1) + j) % 16) 0 ≡ get_or (schedule ws 48) (t + (i + 1) + j) 0
     newest j e15 =
-        let there : (n + 1 + j) % 16 ≡ i = omega (arith, place 16) in
-        let which : n + 1 + j ≡ n + 16 = omega arith in
-        ap (λ (k : ℕ). get_or (set w i (next_in w i)) k 0) there ∙ get_or-set_same w i (next_in w i) 0 (omega (arith, d.sized)) ∙ word-is ∙ ap (λ (k : ℕ). get_or (schedule ws 48) k 0) (sym which)
+        let there : (t + (i + 1) + j) % 16 ≡ i = omega (arith, place 16) in
+        let which : t + (i + 1) + j ≡ n + 16 = omega arith in
+        ap (λ (k : ℕ). get_or (set w i x) k 0) there ∙ get_or-set_same w i x 0 (omega (arith, d.sized)) ∙ word-is ∙ ap (λ (k : ℕ). get_or (schedule ws 48) k 0) (sym which)
 
-    older : (j : ℕ) → j < 16 → j ≢ 15 → get_or (set w i (next_in w i)) ((n + 1 + j) % 16) 0 ≡ get_or (schedule ws 48) (n + 1 + j) 0
+    older : (j : ℕ) → j < 16 → j ≢ 15 → get_or (set w i x) ((t + (i + 1) + j) % 16) 0 ≡ get_or (schedule ws 48) (t + (i + 1) + j) 0
     older j lt' other =
-        let which : n + 1 + j ≡ n + (j + 1) = omega arith in
-        let elsewhere : (n + (j + 1)) % 16 ≢ i = λ here. other (omega (arith, here, m, p)) in
-        ap (λ (k : ℕ). get_or (set w i (next_in w i)) (k % 16) 0) which ∙ get_or-set_other w i ((n + (j + 1)) % 16) (next_in w i) 0 elsewhere
+        let which : t + (i + 1) + j ≡ n + (j + 1) = omega arith in
+        let elsewhere : (n + (j + 1)) % 16 ≢ i = λ here. other (omega (arith, here, m)) in
+        ap (λ (k : ℕ). get_or (set w i x) (k % 16) 0) which ∙ get_or-set_other w i ((n + (j + 1)) % 16) x 0 elsewhere
         ∙ d.ring (j + 1) (omega (arith, other)) ∙ ap (λ (k : ℕ). get_or (schedule ws 48) k 0) (sym which)
 
-    ring : Ring ws (n + 1) (set w i (next_in w i))
+    ring : Ring ws (t + (i + 1)) (set w i x)
     ring j lt' = elim (cases_eq j 15) [ inl e15 ↦ newest j e15 | inr other ↦ older j lt' other ]
 
 -- The number of words done, written in another way.

@@ -5,7 +5,7 @@ use Rattle.sha256.specs.declared.hasher.Hasher.{Hasher}
 
 -- exactly the bytes m
 abbrev pub Took : List ℕ → Hasher → Type 0
-Took m h = Taken m h.stream.value h.stream.rest h.stream.count
+Took m h = Taken m h.stream
 
 -- a padding can count this many bytes
 abbrev pub counts : ℕ → Bool

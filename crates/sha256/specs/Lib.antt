@@ -6,3 +6,4 @@ pub mod Streams
 pub mod Hashers
 pub mod Lanes
 pub mod Parts
+pub mod Sides

@@ -1,11 +1,12 @@
 -- What stands in the middle of a block: how many rounds are done, and which words are at hand. Assumes nothing.
-use Rattle.std.specs.Prelude.{◌≡◌, ℕ, ◌+◌, ◌%◌, ◌<◌, List, [], ◌∷◌, length, slice_index}
+use Rattle.std.specs.Prelude.{◌≡◌, ℕ, ◌+◌, ◌%◌, ◌<◌, List, [], ◌∷◌, map, length, slice_index}
 use Rattle.sha256.specs.Words.{add, ssig0, ssig1}
 use Rattle.sha256.specs.Sha256.{rounds, schedule}
 use Rattle.sha256.specs.declared.rounds.Variables.{Variables}
 
-abbrev pub values : Variables → List ℕ
-values v = v.a ∷ v.b ∷ v.c ∷ v.d ∷ v.e ∷ v.f ∷ v.g ∷ v.h ∷ []
+-- the working variables, where `lane` is what a word is in the lane that is meant
+abbrev pub values : {W : Type 0} → (W → ℕ) → Variables W → List ℕ
+values lane v = lane v.a ∷ lane v.b ∷ lane v.c ∷ lane v.d ∷ lane v.e ∷ lane v.f ∷ lane v.g ∷ lane v.h ∷ []
 
 -- t rounds are done on the hash value h, and the block's words are at hand
 pub record Started (ws h : List ℕ) (t : ℕ) (vs w : List ℕ) : Type 0 where
@@ -21,6 +22,11 @@ pub record Done (ws h : List ℕ) (n : ℕ) (vs w : List ℕ) : Type 0 where
   pub done : vs ≡ rounds ws h (n + 16)
   pub ring : Ring ws n w
   pub sized : length w ≡ 16
+
+-- in each lane, what is done with n more words at v and w is done with m more at v' and w'
+abbrev pub DoesMore : {W : Type 0} → ℕ → (ℕ → W → ℕ) → ℕ → Variables W → List W → ℕ → Variables W → List W → Type 0
+DoesMore lanes lane n v w m v' w' =
+    (i : ℕ) (ws h : List ℕ) → i < lanes → length ws ≡ 16 → Done ws h n (values (lane i) v) (map (lane i) w) → Done ws h m (values (lane i) v') (map (lane i) w')
 
 -- the next word, of the sixteen newest with the oldest at place i
 abbrev pub next_in : List ℕ → ℕ → ℕ

@@ -1,31 +1,18 @@
 // How a stream takes in bytes: those that fill its block, and whole blocks.
-ghost use Rattle.std.specs.Prelude.{◌≡◌, ℕ, ◌+◌, ◌/◌, ◌%◌, ◌^◌, ◌<◌, ◌≤◌, List, [], ◌++◌, length, take};
-ghost use Rattle.sha256.specs.Streams.{Taken, after};
+ghost use Rattle.std.specs.Prelude.{◌≡◌, ◌+◌, ◌*◌, ◌%◌, ◌^◌, ◌<◌, ◌≤◌, [], flat_map, length};
+ghost use Rattle.sha256.specs.Streams.{Adds, Taken, after};
 
 use crate::block::compressed;
 use crate::constants::INITIAL;
 use crate::stream::Stream;
 
-// A block with a part put at a place of it.
-fn with_part(block: [u8; 64], at: usize, part: &[u8]) -> [u8; 64]
-    requires { (at + length part.now ≤ 64) × (length block ≡ 64) }
-    ensures sized { length result ≡ 64 }
-    ensures front { take (at + length part.now) result ≡ take at block ++ part.now }
-{
-    let mut block = block;
-    block[at..at + part.len()].copy_from_slice(part);
-    block
-}
-
 // The hash value after whole blocks; all blocks go through here, so that one is compressed in the loop itself.
-fn after_blocks(value: [u32; 8], blocks: &[u8]) -> [u32; 8]
-    requires { (length blocks.now % 64 ≡ 0) × (length value ≡ 8) }
-    ensures sized { length result ≡ 8 }
-    ensures value { result ≡ after value blocks.now (length blocks.now / 64) }
+// No `fold`, since a closure says nothing of an array that it takes by value.
+fn after_blocks(mut value: [u32; 8], blocks: &[[u8; 64]]) -> [u32; 8]
+    ensures { result ≡ after value blocks.now }
 {
-    let mut value = value;
-    for i in 0..blocks.len() / 64 {
-        let next = compressed(value, &blocks[64 * i..64 * i + 64]);
+    for block in blocks {
+        let next = compressed(value, block);
         value = next;
     }
     value
@@ -33,7 +20,7 @@ fn after_blocks(value: [u32; 8], blocks: &[u8]) -> [u32; 8]
 
 impl Stream {
     pub(crate) fn new() -> Stream
-        ensures { Taken [] result.value result.rest result.count }
+        ensures { Taken [] result }
     {
         Stream {
             value: INITIAL,
@@ -43,52 +30,56 @@ impl Stream {
     }
 
     // Takes in a part that the block at hand has room for, and the block with it if that fills it.
-    fn fill(self, part: &[u8]) -> Stream
-        requires { (self.count % 64 + length part.now ≤ 64) × (self.count + length part.now < 2 ^ 64) }
-        ensures taken { (m : List ℕ) → Taken m self.value self.rest self.count → Taken (m ++ part.now) result.value result.rest result.count }
-        ensures counted { result.count ≡ self.count + length part.now }
+    fn fill(mut self, part: &[u8]) -> Stream
+        requires room { self.count % 64 + length part.now ≤ 64 }
+        requires countable { self.count + length part.now < 2 ^ 64 }
+        ensures { Adds part.now self result }
     {
         let at = (self.count % 64) as usize;
-        let rest = with_part(self.rest, at, part);
-        let value = if at + part.len() == 64 {
-            after_blocks(self.value, &rest)
-        } else {
-            self.value
-        };
+        let end = at + part.len();
+        self.rest[at..end].copy_from_slice(part);
+        if end == 64 {
+            self.value = after_blocks(self.value, &[self.rest]);
+        }
+        self.count += part.len() as u64;
+        self
+    }
+
+    // The stream behind whole blocks, where none is begun, given the hash value that they make.
+    pub(crate) fn behind(self, blocks: &[[u8; 64]], value: [u32; 8]) -> Stream
+        requires even { 0 < length blocks.now → self.count % 64 ≡ 0 }
+        requires countable { self.count + length (flat_map (λ b. b) blocks.now) < 2 ^ 64 }
+        requires made { value ≡ after self.value blocks.now }
+        ensures adds { Adds (flat_map (λ b. b) blocks.now) self result }
+        ensures even { result.count ≡ self.count + length blocks.now * 64 }
+    {
         Stream {
             value,
-            rest,
-            count: self.count + part.len() as u64,
+            count: self.count + blocks.as_flattened().len() as u64,
+            ..self
         }
     }
 
     // Takes in whole blocks where none is begun, without copying them.
-    fn take_blocks(self, part: &[u8]) -> Stream
-        requires { (self.count % 64 ≡ 0) × ((length part.now % 64 ≡ 0) × (self.count + length part.now < 2 ^ 64)) }
-        ensures taken { (m : List ℕ) → Taken m self.value self.rest self.count → Taken (m ++ part.now) result.value result.rest result.count }
-        ensures counted { result.count ≡ self.count + length part.now }
+    fn take_blocks(self, blocks: &[[u8; 64]]) -> Stream
+        requires even { self.count % 64 ≡ 0 }
+        requires countable { self.count + length (flat_map (λ b. b) blocks.now) < 2 ^ 64 }
+        ensures { Adds (flat_map (λ b. b) blocks.now) self result }
     {
-        let value = after_blocks(self.value, part);
-        let rest = self.rest;
-        Stream {
-            value,
-            rest,
-            count: self.count + part.len() as u64,
-        }
+        self.behind(blocks, after_blocks(self.value, blocks))
     }
 
     // Takes in a part of any length.
     pub(crate) fn absorb(self, part: &[u8]) -> Stream
         requires { self.count + length part.now < 2 ^ 64 }
-        ensures taken { (m : List ℕ) → Taken m self.value self.rest self.count → Taken (m ++ part.now) result.value result.rest result.count }
-        ensures counted { result.count ≡ self.count + length part.now }
+        ensures { Adds part.now self result }
     {
         let room = 64 - (self.count % 64) as usize;
         if part.len() <= room {
             return self.fill(part);
         }
         let (front, others) = part.split_at(room);
-        let (blocks, back) = others.split_at(others.len() / 64 * 64);
+        let (blocks, back) = others.as_chunks();
         self.fill(front).take_blocks(blocks).fill(back)
     }
 }

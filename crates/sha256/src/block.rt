@@ -1,101 +1,118 @@
-// One block of SHA-256: its sixteen words, its 64 rounds, and what they make of the hash value.
-ghost use Rattle.std.specs.Prelude.{◌≡◌, ℕ, ◌+◌, ◌%◌, ◌<◌, ◌≤◌, List, length};
+// One block of SHA-256 or one in each lane: its sixteen words, its 64 rounds, and what they make of the hash value.
+ghost use Rattle.std.specs.Prelude.{◌≡◌, ℕ, ◌+◌, ◌%◌, ◌<◌, ◌≤◌, List, length, map};
 ghost use Rattle.sha256.specs.Sha256.{compress, words};
-ghost use Rattle.sha256.specs.Steps.{Done, Started, values};
+ghost use Rattle.sha256.specs.Steps.{DoesMore, Done, Started, values};
 
 use crate::constants::ROUNDS;
 use crate::rounds::{Variables, round};
-use crate::words::{small_sigma0, small_sigma1};
+use crate::words::{Word, small_sigma0, small_sigma1};
+use std::array::from_fn;
 
-// Round I, for I below 16: its word is one of the block's own.
-fn first_turn<const I: usize>(v: Variables, w: &[u32; 16]) -> Variables
-    requires { I < 16 }
-    ensures { (ws h : List ℕ) → length ws ≡ 16 → Started ws h I (values v) w.now → Started ws h (I + 1) (values result) w.now }
+// Round t + 16 + i, with t more words done before word i; its word takes the place of the oldest.
+fn turn<W: Word>(v: Variables<W>, w: &mut [W; 16], t: usize, i: usize) -> Variables<W>
+    requires { (i < 16) × ((t ≤ 32) × (t % 16 ≡ 0)) }
+    ensures { DoesMore W.lanes W.lane (t + i) v w.old (t + (i + 1)) result w.new }
 {
-    round(v, ROUNDS[I], w[I])
+    let x = small_sigma1(w[(i + 14) % 16])
+        .plus(w[(i + 9) % 16])
+        .plus(small_sigma0(w[(i + 1) % 16]))
+        .plus(w[i]);
+    w[i] = x;
+    round(v, ROUNDS[t + 16 + i], x)
 }
 
-// Round T + 16 + I, with T more words done before word I; its word takes the place of the oldest.
-fn turn<const I: usize, const T: usize>(v: Variables, w: &mut [u32; 16]) -> Variables
-    requires { (I < 16) × ((T ≤ 32) × (T % 16 ≡ 0)) }
-    ensures { (ws h : List ℕ) (n : ℕ) → n ≡ T + I → length ws ≡ 16 → Done ws h n (values v) w.old → Done ws h (n + 1) (values result) w.new }
+// Round i, for i below 16: its word is one of the block's own.
+fn first_turn<W: Word>(v: Variables<W>, w: &[W; 16], i: usize) -> Variables<W>
+    requires { i < 16 }
+    ensures { (k : ℕ) (ws h : List ℕ) → k < W.lanes → length ws ≡ 16 → Started ws h i (values (W.lane k) v) (map (W.lane k) w.now) → Started ws h (i + 1) (values (W.lane k) result) (map (W.lane k) w.now) }
 {
-    let x = small_sigma1(w[(I + 14) % 16])
-        .wrapping_add(w[(I + 9) % 16])
-        .wrapping_add(small_sigma0(w[(I + 1) % 16]))
-        .wrapping_add(w[I]);
-    w[I] = x;
-    round(v, ROUNDS[T + 16 + I], x)
+    round(v, ROUNDS[i], w[i])
 }
 
-// The first sixteen rounds, written out so that the variables stay in registers.
-fn first_sixteen(v: Variables, w: &[u32; 16]) -> Variables
-    ensures { (ws h : List ℕ) → length ws ≡ 16 → Started ws h 0 (values v) w.now → Done ws h 0 (values result) w.now }
+// The first sixteen rounds, written out so that the variables stay in registers: as a `for` they take a sixth longer.
+fn first_sixteen<W: Word>(v: Variables<W>, w: &[W; 16]) -> Variables<W>
+    ensures { (k : ℕ) (ws h : List ℕ) → k < W.lanes → length ws ≡ 16 → Started ws h 0 (values (W.lane k) v) (map (W.lane k) w.now) → Done ws h 0 (values (W.lane k) result) (map (W.lane k) w.now) }
 {
-    let v = first_turn::<0>(v, w);
-    let v = first_turn::<1>(v, w);
-    let v = first_turn::<2>(v, w);
-    let v = first_turn::<3>(v, w);
-    let v = first_turn::<4>(v, w);
-    let v = first_turn::<5>(v, w);
-    let v = first_turn::<6>(v, w);
-    let v = first_turn::<7>(v, w);
-    let v = first_turn::<8>(v, w);
-    let v = first_turn::<9>(v, w);
-    let v = first_turn::<10>(v, w);
-    let v = first_turn::<11>(v, w);
-    let v = first_turn::<12>(v, w);
-    let v = first_turn::<13>(v, w);
-    let v = first_turn::<14>(v, w);
-    let v = first_turn::<15>(v, w);
+    let v = first_turn(v, w, 0);
+    let v = first_turn(v, w, 1);
+    let v = first_turn(v, w, 2);
+    let v = first_turn(v, w, 3);
+    let v = first_turn(v, w, 4);
+    let v = first_turn(v, w, 5);
+    let v = first_turn(v, w, 6);
+    let v = first_turn(v, w, 7);
+    let v = first_turn(v, w, 8);
+    let v = first_turn(v, w, 9);
+    let v = first_turn(v, w, 10);
+    let v = first_turn(v, w, 11);
+    let v = first_turn(v, w, 12);
+    let v = first_turn(v, w, 13);
+    let v = first_turn(v, w, 14);
+    let v = first_turn(v, w, 15);
     v
 }
 
-// Sixteen rounds with sixteen more words.
-fn sixteen<const T: usize>(v: Variables, w: &mut [u32; 16]) -> Variables
-    requires { (T ≤ 32) × (T % 16 ≡ 0) }
-    ensures { (ws h : List ℕ) → length ws ≡ 16 → Done ws h T (values v) w.old → Done ws h (T + 16) (values result) w.new }
+// Sixteen rounds with sixteen more words, written out for the same reason.
+fn sixteen<W: Word>(v: Variables<W>, w: &mut [W; 16], t: usize) -> Variables<W>
+    requires { (t ≤ 32) × (t % 16 ≡ 0) }
+    ensures { DoesMore W.lanes W.lane t v w.old (t + 16) result w.new }
 {
-    let v = turn::<0, T>(v, w);
-    let v = turn::<1, T>(v, w);
-    let v = turn::<2, T>(v, w);
-    let v = turn::<3, T>(v, w);
-    let v = turn::<4, T>(v, w);
-    let v = turn::<5, T>(v, w);
-    let v = turn::<6, T>(v, w);
-    let v = turn::<7, T>(v, w);
-    let v = turn::<8, T>(v, w);
-    let v = turn::<9, T>(v, w);
-    let v = turn::<10, T>(v, w);
-    let v = turn::<11, T>(v, w);
-    let v = turn::<12, T>(v, w);
-    let v = turn::<13, T>(v, w);
-    let v = turn::<14, T>(v, w);
-    let v = turn::<15, T>(v, w);
+    let v = turn(v, w, t, 0);
+    let v = turn(v, w, t, 1);
+    let v = turn(v, w, t, 2);
+    let v = turn(v, w, t, 3);
+    let v = turn(v, w, t, 4);
+    let v = turn(v, w, t, 5);
+    let v = turn(v, w, t, 6);
+    let v = turn(v, w, t, 7);
+    let v = turn(v, w, t, 8);
+    let v = turn(v, w, t, 9);
+    let v = turn(v, w, t, 10);
+    let v = turn(v, w, t, 11);
+    let v = turn(v, w, t, 12);
+    let v = turn(v, w, t, 13);
+    let v = turn(v, w, t, 14);
+    let v = turn(v, w, t, 15);
     v
+}
+
+// The 48 rounds after the first sixteen.
+fn later<W: Word>(mut v: Variables<W>, w: &mut [W; 16]) -> Variables<W>
+    ensures { DoesMore W.lanes W.lane 0 v w.old 48 result w.new }
+{
+    // The number of the turn says which constants are next, so the loop goes by it.
+    for j in 0..3 {
+        v = sixteen(v, w, 16 * j);
+    }
+    v
+}
+
+// What sixteen words make of the hash value, in each lane.
+pub(crate) fn after_block<W: Word>(value: Variables<W>, words: [W; 16]) -> Variables<W>
+    ensures { (k : ℕ) → k < W.lanes → values (W.lane k) result ≡ compress (values (W.lane k) value) (map (W.lane k) words) }
+{
+    let mut w = words;
+    let v = first_sixteen(value, &w);
+    let v = later(v, &mut w);
+    value.plus(v)
 }
 
 // The sixteen words of a block.
-fn load(block: &[u8]) -> [u32; 16]
-    requires { length block.now ≡ 64 }
-    ensures { result ≡ words block.now }
+pub(crate) fn load(block: &[u8; 64]) -> [u32; 16]
+    ensures value { result ≡ words block.now }
+    ensures sized { length result ≡ 16 }
 {
-    let mut w = [0u32; 16];
-    for i in 0usize..16 {
-        let at = 4 * i;
-        w[i] = u32::from_be_bytes([block[at], block[at + 1], block[at + 2], block[at + 3]]);
-    }
-    w
+    let (fours, _) = block.as_chunks();
+    from_fn(|i| u32::from_be_bytes(fours[i]))
 }
 
 // What a block of 64 bytes makes of the hash value.
-pub(crate) fn compressed(value: [u32; 8], block: &[u8]) -> [u32; 8]
-    requires { length block.now ≡ 64 }
+pub(crate) fn compressed(value: [u32; 8], block: &[u8; 64]) -> [u32; 8]
     ensures { result ≡ compress value (words block.now) }
 {
-    let mut w = load(block);
+    // A hash value is a list for the standard and eight variables for a block; it is turned once each way, here.
     let [a, b, c, d, e, f, g, h] = value;
-    let v = first_sixteen(
+    let v = after_block(
         Variables {
             a,
             b,
@@ -106,19 +123,7 @@ pub(crate) fn compressed(value: [u32; 8], block: &[u8]) -> [u32; 8]
             g,
             h,
         },
-        &w,
+        load(block),
     );
-    let v = sixteen::<0>(v, &mut w);
-    let v = sixteen::<16>(v, &mut w);
-    let v = sixteen::<32>(v, &mut w);
-    [
-        a.wrapping_add(v.a),
-        b.wrapping_add(v.b),
-        c.wrapping_add(v.c),
-        d.wrapping_add(v.d),
-        e.wrapping_add(v.e),
-        f.wrapping_add(v.f),
-        g.wrapping_add(v.g),
-        h.wrapping_add(v.h),
-    ]
+    [v.a, v.b, v.c, v.d, v.e, v.f, v.g, v.h]
 }

@@ -7,7 +7,7 @@ use crate::hasher::{Hasher, TooLong};
 use crate::stream::Stream;
 
 // The fewest bytes that a padding can't count: their bits don't fit 64 bits.
-const UNCOUNTED: u64 = 1 << 61;
+pub(crate) const UNCOUNTED: u64 = 1 << 61;
 
 impl Hasher {
     pub fn new() -> Hasher

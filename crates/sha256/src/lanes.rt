@@ -1,14 +1,5 @@
 // The working variables of four blocks side by side.
+use crate::rounds::Variables;
 use std::simd::prelude::*;
 
-#[derive(Clone, Copy)]
-pub(crate) struct Lanes {
-    pub(crate) a: u32x4,
-    pub(crate) b: u32x4,
-    pub(crate) c: u32x4,
-    pub(crate) d: u32x4,
-    pub(crate) e: u32x4,
-    pub(crate) f: u32x4,
-    pub(crate) g: u32x4,
-    pub(crate) h: u32x4,
-}
+pub(crate) type Lanes = Variables<u32x4>;

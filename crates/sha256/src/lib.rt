@@ -2,6 +2,7 @@
 #![tactic(auto)]
 
 mod absorb;
+mod beside;
 mod block;
 mod constants;
 mod finish;

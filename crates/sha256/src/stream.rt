@@ -1,11 +1,7 @@
 // A stream of bytes on its way through SHA-256: the hash value of its whole blocks, and what is left over.
-ghost use Rattle.std.specs.Prelude.{◌≡◌, length};
-
 #[derive(Clone, Copy)]
 pub(crate) struct Stream {
     pub(crate) value: [u32; 8],
     pub(crate) rest: [u8; 64],
     pub(crate) count: u64,
-    ghost eight: { length value ≡ 8 },
-    ghost block: { length rest ≡ 64 },
 }

@@ -1,67 +1,89 @@
 // The digests of four byte strings at once, each a byte and then a part.
-ghost use Rattle.std.specs.Prelude.{◌≡◌, ℕ, ◌+◌, ◌^◌, ◌<◌, ◌≤◌, List, [], ◌∷◌, ◌++◌, map, length, is_ok, IfOk};
+ghost use Rattle.std.specs.Prelude.{◌≡◌, ◌<◌, ◌≤◌, ◌∷◌, map, length, take, is_ok, IfOk, slice_index};
+ghost use Rattle.std.specs.List.{AllByRecursion, AllZip};
+ghost use Rattle.std.specs.Simd.Lanes.{zip2};
+ghost use Rattle.sha256.specs.Lanes.{lane};
 ghost use Rattle.sha256.specs.Parts.{each_counts};
 ghost use Rattle.sha256.specs.Sha256.{digest};
-ghost use Rattle.sha256.specs.Streams.{Taken};
+ghost use Rattle.sha256.specs.Sides.{Keeps, lanes};
+ghost use Rattle.sha256.specs.Streams.{after};
 
+use crate::four::compressed_four;
 use crate::hasher::TooLong;
-use crate::hashing::digest_after;
-use crate::sides::{Sides, take_blocks_four};
-use crate::stream::Stream;
+use crate::lanes::Lanes;
+use crate::sides::Side;
+use std::simd::prelude::*;
 
-// The longest part that a padding can count with the byte before it.
-const LONGEST: usize = (1 << 61) - 2;
-
-// A byte and the first 63 bytes of a part: one whole block.
-fn begun(first: u8, front: &[u8]) -> Stream
-    requires { length front.now ≡ 63 }
-    ensures taken { Taken (first ∷ front.now) result.value result.rest result.count }
-    ensures counted { result.count ≡ 64 }
+// Four hash values, each in a lane of its own.
+fn lanes_of(values: [[u32; 8]; 4]) -> Lanes
+    ensures { lanes result ≡ values }
 {
-    Stream::new().absorb(&[first]).absorb(front)
+    // `across` makes the same of rows of any length, but then the proof that each of these has eight words didn't close.
+    let [p, q, r, s] = values;
+    let at = |i: usize| u32x4::from_array([p[i], q[i], r[i], s[i]]);
+    Lanes {
+        a: at(0),
+        b: at(1),
+        c: at(2),
+        d: at(3),
+        e: at(4),
+        f: at(5),
+        g: at(6),
+        h: at(7),
+    }
 }
 
-// The digest of what was taken in and the rest of a part.
-fn ended(stream: Stream, back: &[u8]) -> [u8; 32]
-    requires { stream.count + length back.now < 2 ^ 61 }
-    ensures { (m : List ℕ) → Taken m stream.value stream.rest stream.count → result ≡ digest (m ++ back.now) }
+// The hash value in lane k.
+fn value_in(v: Lanes, k: usize) -> [u32; 8]
+    requires { k < 4 }
+    ensures { result ≡ lane k v }
 {
-    stream.absorb(back).finish()
+    [v.a, v.b, v.c, v.d, v.e, v.f, v.g, v.h].map(
+        |x|
+            requires { k < 4 }
+            ensures { result ≡ slice_index x k }
+        { x.to_array()[k] },
+    )
 }
 
-// The digests where the parts have one length and fill a block, the blocks after the first side by side.
-fn alike_four(first: u8, p: &[u8], q: &[u8], r: &[u8], s: &[u8]) -> [[u8; 32]; 4]
-    requires long { (63 ≤ length p.now) × (1 + length p.now < 2 ^ 61) }
-    requires alike { (length q.now ≡ length p.now) × ((length r.now ≡ length p.now) × (length s.now ≡ length p.now)) }
-    ensures { result ≡ digest (first ∷ p.now) ∷ digest (first ∷ q.now) ∷ digest (first ∷ r.now) ∷ digest (first ∷ s.now) ∷ [] }
+// Each lane's hash value after so many blocks of its own.
+fn after_four(v: Lanes, blocks: [&[[u8; 64]]; 4], count: usize) -> Lanes
+    requires { AllByRecursion (λ b. count ≤ length b.now) blocks }
+    ensures { lanes result ≡ zip2 (λ value b. after value (take count b.now)) (lanes v) blocks.entry }
 {
-    let end = 63 + (p.len() - 63) / 64 * 64;
-    let sides = Sides {
-        a: begun(first, &p[0..63]),
-        b: begun(first, &q[0..63]),
-        c: begun(first, &r[0..63]),
-        d: begun(first, &s[0..63]),
-    };
-    let sides = take_blocks_four(sides, &p[63..end], &q[63..end], &r[63..end], &s[63..end]);
+    let [p, q, r, s] = blocks;
+    p[..count]
+        .iter()
+        .zip(&q[..count])
+        .zip(&r[..count])
+        .zip(&s[..count])
+        .fold(v, |v, (((p, q), r), s)| compressed_four(v, p, q, r, s))
+}
+
+// Takes in the blocks that all four have, side by side.
+fn side_by_side(sides: [Side; 4]) -> [Side; 4]
+    ensures { AllZip Keeps sides.entry result }
+{
+    let [p, q, r, s] = sides;
+    let count = p
+        .blocks
+        .len()
+        .min(q.blocks.len())
+        .min(r.blocks.len())
+        .min(s.blocks.len());
+    let v = lanes_of([
+        p.stream.value,
+        q.stream.value,
+        r.stream.value,
+        s.stream.value,
+    ]);
+    let v = after_four(v, [p.blocks, q.blocks, r.blocks, s.blocks], count);
     [
-        ended(sides.a, &p[end..]),
-        ended(sides.b, &q[end..]),
-        ended(sides.c, &r[end..]),
-        ended(sides.d, &s[end..]),
+        p.behind(count, value_in(v, 0)),
+        q.behind(count, value_in(v, 1)),
+        r.behind(count, value_in(v, 2)),
+        s.behind(count, value_in(v, 3)),
     ]
-}
-
-// The digests one after the other.
-fn each_of_four(first: u8, p: &[u8], q: &[u8], r: &[u8], s: &[u8]) -> Result<[[u8; 32]; 4], TooLong>
-    ensures fits { is_ok result ≡ each_counts (p.now ∷ q.now ∷ r.now ∷ s.now ∷ []) }
-    ensures value { IfOk result (λ ds. ds ≡ digest (first ∷ p.now) ∷ digest (first ∷ q.now) ∷ digest (first ∷ r.now) ∷ digest (first ∷ s.now) ∷ []) }
-{
-    Ok([
-        digest_after(first, p)?,
-        digest_after(first, q)?,
-        digest_after(first, r)?,
-        digest_after(first, s)?,
-    ])
 }
 
 // The digests of four byte strings, each a byte and then a part; fastest where the parts have one length.
@@ -69,10 +91,7 @@ pub fn digest_four(first: u8, parts: [&[u8]; 4]) -> Result<[[u8; 32]; 4], TooLon
     ensures fits { is_ok result ≡ each_counts (map (λ part. part.now) parts.entry) }
     ensures value { IfOk result (λ ds. ds ≡ map (λ part. digest (first ∷ part.now)) parts.entry) }
 {
-    let [p, q, r, s] = parts;
-    let n = p.len();
-    if n < 63 || n > LONGEST || q.len() != n || r.len() != n || s.len() != n {
-        return each_of_four(first, p, q, r, s);
-    }
-    Ok(alike_four(first, p, q, r, s))
+    // `try_map` says nothing of what its closure captures, so each `?` stands for itself.
+    let [p, q, r, s] = parts.map(|part| Side::begun(first, part));
+    Ok(side_by_side([p?, q?, r?, s?]).map(Side::ended))
 }

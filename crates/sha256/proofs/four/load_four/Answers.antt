@@ -1,32 +1,20 @@
-use Rattle.std.proofs.Common.{◌≡◌, refl, ◌∙◌, arith}
-use Rattle.std.proofs.lemmas.List.{length-set}
-use Rattle.sha256.proofs.FourLoads.{loaded_more_in, loaded_all_in}
-use Rattle.sha256.proofs.FourWords.{wide-set}
+use Rattle.std.proofs.Common.{◌≡◌, ℕ, ◌<◌, [], Bor, List, map, length, get_or, refl, ◌∙◌, rules, arith}
+use Rattle.sha256.specs.Lanes.{column}
+use Rattle.sha256.specs.Sha256.{words}
+use Rattle.sha256.proofs.Arrays.{made_each, mapped, mapped_each}
+use Rattle.sha256.proofs.Loads.{columns-are}
 use Rattle.sha256.proofs.four.load_four.Goals as goal
 
-pub loop-i-preserved : goal.loop-i-preserved
-loop-i-preserved c =
-    let w = c.loop-i.w in
-    let i = c.loop-i.i in
-    let inv = c.loop-i.invariant in
-    let lt = c.loop-i-test.true in (
-      length-set w i _ ∙ inv.0,
-      wide-set w i _ inv.0 inv.1 refl,
-      loaded_more_in 0 _ w i _ inv.0 c.requires.0 lt inv.2 c.word_at.ensures,
-      loaded_more_in 1 _ w i _ inv.0 c.requires.1.0 lt inv.3 c.word_at-in-loop-i.ensures,
-      loaded_more_in 2 _ w i _ inv.0 c.requires.1.1.0 lt inv.4 c.word_at-in-loop-i-2.ensures,
-      loaded_more_in 3 _ w i _ inv.0 c.requires.1.1.1 lt inv.5 c.word_at-in-loop-i-3.ensures,
-    )
+none : Bor (List ℕ)
+none = record { ref_ptr = (0, 0); now = [] }
 
 pub returns : goal.returns
 returns c =
-    let w = c.loop-i.w in
-    let inv = c.loop-i.invariant in
-    let last : c.loop-i.i ≡ 16 = omega (arith, c.loop-i-test.false, c.loop-i.auto.i-end) in
-    record {
-      wide = inv.1;
-      zero = loaded_all_in 0 _ w _ last inv.0 c.requires.0 inv.2;
-      one = loaded_all_in 1 _ w _ last inv.0 c.requires.1.0 inv.3;
-      two = loaded_all_in 2 _ w _ last inv.0 c.requires.1.1.0 inv.4;
-      three = loaded_all_in 3 _ w _ last inv.0 c.requires.1.1.1 inv.5;
-    }
+    let blocks = c.args.blocks in
+    let rows = c.map-rows.result in
+    let mapping = c.map-rows.ensures.items in
+    let making = c.from_fn.ensures.items in
+    let loaded : rows ≡ map (λ block. words block.now) blocks = mapped _ (λ block. words block.now) _ (λ x y f' called. (search rules, search rules)) _ _ 4 (search rules) mapping in
+    let sized : (k : ℕ) → k < 4 → length (get_or rows k []) ≡ 16 = λ k h. mapped_each _ (λ x y. length y ≡ 16) _ (λ x y f' called. (search rules, search rules)) blocks rows 0 4 _ refl mapping.each k none [] (omega arith) (omega arith) in
+    let across : (i : ℕ) → i < 16 → get_or c.from_fn.result i [] ≡ column i rows = λ i h. made_each _ (λ k y. y ≡ column k rows) _ (λ k y f' called. (search rules, search rules)) _ 0 16 _ refl making.each i [] (omega arith) (omega arith) in
+    columns-are _ rows mapping.long sized making.long across ∙ loaded

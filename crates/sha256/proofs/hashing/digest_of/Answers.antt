@@ -1,7 +1,5 @@
-use Rattle.std.proofs.Common.{[], zero-add}
+use Rattle.std.proofs.Common.{[]}
 use Rattle.sha256.proofs.hashing.digest_of.Goals as goal
 
-pub returns : goal.returns
-returns c =
-    let all = c.in_ok-update.ensures.taken [] c.new.ensures in
-    record { fits = rw (c.new.ensures.counted, zero-add) at c.in_ok-update.ensures.fits; value = c.finish.ensures _ all }
+pub returns-clause-value : goal.returns-clause-value
+returns-clause-value c = c.finish.ensures _ (c.in_ok-update.ensures.taken [] c.new.ensures)
