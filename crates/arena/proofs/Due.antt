@@ -1,46 +1,38 @@
 -- What is due happens one event after the other, and honest peers are seated one after the other.
-use Rattle.std.proofs.Common.{◌≡◌, ℕ, suc, ◌+◌, ◌<◌, ◌≤◌, true, false, cond, leb, List, [], ◌∷◌, ◌++◌, length, get_or, drop, sym, ap, ◌∙◌, append_assoc, arith, length-append}
+use Rattle.std.proofs.Common.{◌≡◌, ℕ, suc, ◌+◌, ◌<◌, ◌≤◌, Bool, true, false, cond, leb, ltb, List, [], ◌∷◌, ◌++◌, length, Some, None, unwrap_or, get_or, take, drop, refl, sym, ap, ◌∙◌, append_assoc, arith, length-append}
 use Rattle.arena.specs.Seats.{Seat, seat, seats, happens, happen_till, due_till, seated}
 use Rattle.arena.specs.declared.node.Node.{Node}
-use Rattle.script.proofs.Standing.{no_event}
 use Rattle.script.specs.declared.sheet.Event.{Event}
 use Rattle.script.specs.declared.sheet.Peer.{Peer}
+use Rattle.std.proofs.lemmas.List.Recursion.{is_position_or_len}
 use Rattle.std.proofs.lemmas.List.{at_drop_more, at_drop_all, map-append}
-use Rattle.std.proofs.lemmas.Bool.{cond-true, cond-false, le-leb, lt-leb}
+use Rattle.std.specs.List.{position_or_len, fold}
+use Rattle.std.proofs.lemmas.Bool.{cond-true, cond-false}
 use Rattle.std.proofs.lemmas.Bool.Decides.{nat_tests}
 
 -- what the code reads past the end
 abbrev pub no_peer : Peer
 no_peer = record { id = 0; honest = false }
 
-module _ (t : ℕ) (es : List Event) (i : ℕ) (h : i < length es) where
-  happen_next : (ss : List Seat) → happen_till t (drop i es) ss ≡ cond (leb (get_or es i no_event).at t) (happen_till t (drop (i + 1) es) (happens (get_or es i no_event) ss)) ss
-  unfolding happen_till
-  happen_next ss = at_drop_more (λ xs. happen_till t xs ss) es i no_event h
-
-  due_next : due_till t (drop i es) ≡ cond (leb (get_or es i no_event).at t) (suc (due_till t (drop (i + 1) es))) 0
-  unfolding due_till
-  due_next = at_drop_more (due_till t) es i no_event h
-
-  pub happen_more : (ss : List Seat) → (get_or es i no_event).at ≤ t → happen_till t (drop i es) ss ≡ happen_till t (drop (i + 1) es) (happens (get_or es i no_event) ss)
-  happen_more ss l = happen_next ss ∙ cond-true _ _ _ (le-leb (get_or es i no_event).at t l)
-
-  pub happen_stop : (ss : List Seat) → t < (get_or es i no_event).at → happen_till t (drop i es) ss ≡ ss
-  happen_stop ss l = happen_next ss ∙ cond-false _ _ _ (lt-leb (get_or es i no_event).at t l)
-
-  pub due_more : (get_or es i no_event).at ≤ t → due_till t es ≡ i + due_till t (drop i es) → due_till t es ≡ (i + 1) + due_till t (drop (i + 1) es)
-  due_more l e = let f = due_next in grind (arith, nat_tests)
-
-  pub due_stop : t < (get_or es i no_event).at → due_till t es ≡ i + due_till t (drop i es) → i ≡ due_till t es
-  due_stop l e = let f = due_next in grind (arith, nat_tests)
-
-pub happen_end : (t : ℕ) (es : List Event) (i : ℕ) (ss : List Seat) → length es ≤ i → happen_till t (drop i es) ss ≡ ss
-unfolding happen_till
-happen_end t es i ss l = at_drop_all (λ xs. happen_till t xs ss) es i l
-
-pub due_end : (t : ℕ) (es : List Event) (i : ℕ) → length es ≤ i → i ≤ length es → due_till t es ≡ i + due_till t (drop i es) → length es ≡ due_till t es
+-- how many are due is the place of the first that is not
+pub due_till-place : (t : ℕ) (es : List Event) → due_till t es ≡ position_or_len (λ e. ltb t e.at) es
 unfolding due_till
-due_end t es i l k e = let f : due_till t (drop i es) ≡ 0 = at_drop_all (due_till t) es i l in omega arith
+due_till-place t = is_position_or_len (due_till t) (λ e. ltb t e.at) refl (λ e es. grind (arith, nat_tests))
+
+-- the place of the first of them, or else how many there are
+pub place_or_all : (p n : ℕ) → p ≤ n → unwrap_or (cond (ltb p n) (Some p) None) n ≡ p
+place_or_all p n h = grind (arith, nat_tests)
+
+-- those that are due happen one after the other
+pub happened : (t : ℕ) (es : List Event) (ss : List Seat) → happen_till t es ss ≡ fold (λ rs e. happens e rs) ss (take (due_till t es) es)
+unfolding happen_till due_till
+happened t [] ss = refl
+happened t (e ∷ es) ss = by_test (leb e.at t) (happened t es (happens e ss))
+  where
+    by_test : (due : Bool) → happen_till t es (happens e ss) ≡ fold (λ rs d. happens d rs) (happens e ss) (take (due_till t es) es) →
+        cond due (happen_till t es (happens e ss)) ss ≡ fold (λ rs d. happens d rs) ss (take (cond due (suc (due_till t es)) 0) (e ∷ es))
+    by_test true h = h
+    by_test false h = refl
 
 seated-next : (ps : List Peer) (i : ℕ) → i < length ps → seated (drop i ps) ≡
     cond (get_or ps i no_peer).honest (record { id = (get_or ps i no_peer).id; row = []; holder = [] } ∷ seated (drop (i + 1) ps)) (seated (drop (i + 1) ps))

@@ -1,16 +1,15 @@
--- All peers take a link just if each of them does, one after the other.
-use Rattle.std.proofs.Common.{◌≡◌, ℕ, ◌+◌, ◌<◌, ◌≤◌, true, not, ◌&&◌, ◌||◌, eqb, List, length, get_or, drop, sym, ap, ◌∙◌}
+-- A peer takes a link just if each of the peers that it may be does.
+use Rattle.std.proofs.Common.{◌≡◌, ℕ, not, ◌&&◌, ◌||◌, Bool, eqb, List, refl}
 use Rattle.arena.specs.Seats.{seats, willing}
 use Rattle.arena.specs.declared.node.Node.{Node}
 use Rattle.rotation.specs.Rows.{row, room}
-use Rattle.std.proofs.lemmas.List.{at_drop_more, at_drop_all}
+use Rattle.std.proofs.lemmas.List.Recursion.{same_from_clauses}
+use Rattle.std.specs.List.{list_all}
 
-pub willing-next : (id other : ℕ) (ns : List Node) (i : ℕ) (n : Node) → i < length ns → n ≡ get_or ns i n →
-    willing id other (seats (drop i ns)) ≡ ((not (eqb n.id id) || room other (row n.rotation)) && willing id other (seats (drop (i + 1) ns)))
-unfolding willing
-willing-next id other ns i n h at =
-    at_drop_more (λ xs. willing id other (seats xs)) ns i n h ∙ ap (λ (m : Node). (not (eqb m.id id) || room other (row m.rotation)) && willing id other (seats (drop (i + 1) ns))) (sym at)
+-- does this peer, if it is peer id, take a link to another
+abbrev pub takes : (id other : ℕ) → Node → Bool
+takes id other n = not (eqb n.id id) || room other (row n.rotation)
 
-pub willing_end : (id other : ℕ) (ns : List Node) (i : ℕ) → length ns ≤ i → willing id other (seats (drop i ns)) ≡ true
+pub all-willing : (id other : ℕ) (ns : List Node) → list_all (takes id other) ns ≡ willing id other (seats ns)
 unfolding willing
-willing_end id other ns i l = at_drop_all (λ xs. willing id other (seats xs)) ns i l
+all-willing id other = same_from_clauses (list_all (takes id other)) (λ ns. willing id other (seats ns)) (λ n b. takes id other n && b) refl (λ _ _. refl) (λ _ _. refl)

@@ -5,7 +5,7 @@ ghost use Rattle.arena.specs.Seats.{seat, seats, seated, willing, change_at, lin
 ghost use Rattle.rotation.specs.Rows.{meant_all};
 
 use crate::node::Node;
-use rotation::{Change, Rotation};
+use rotation::Change;
 use script::{Event, LinkEvent, Peer};
 use std::alloc::{AllocError, Global};
 
@@ -13,34 +13,19 @@ use std::alloc::{AllocError, Global};
 fn is_willing(nodes: &[Node], id: u64, other: u64) -> bool
     ensures { result ≡ willing id other (seats nodes.now) }
 {
-    for node in nodes {
-        if node.id == id && !node.rotation.takes(other) {
-            return false;
-        }
-    }
-    true
-}
-
-// A peer after the rotation of peer `id` changed.
-fn changed(node: Node, id: u64, changes: &[Change]) -> Node
-    ensures { seat result ≡ change_at id (meant_all changes.now) (seat node) }
-{
-    if node.id != id {
-        return node;
-    }
-    Node {
-        id,
-        rotation: node.rotation.change_all(changes),
-        holder: node.holder,
-    }
+    nodes
+        .iter()
+        .all(|node| node.id != id || node.rotation.takes(other))
 }
 
 // The rotation of peer `id` changes.
 fn change_at(nodes: &mut [Node], id: u64, changes: &[Change])
     ensures { seats nodes.new ≡ map (change_at id (meant_all changes.now)) (seats nodes.old) }
 {
-    for i in 0..nodes.len() {
-        nodes[i] = changed(nodes[i], id, changes);
+    for node in nodes.iter_mut() {
+        if node.id == id {
+            node.change(changes);
+        }
     }
 }
 
@@ -78,25 +63,14 @@ fn happen_till(nodes: &mut [Node], events: &[Event], tick: u64) -> usize
     ensures due { result ≡ due_till tick events.now }
     ensures bound { result ≤ length events.now }
 {
-    for (i, event) in events.iter().enumerate() {
-        if event.at > tick {
-            return i;
-        }
+    let due = events
+        .iter()
+        .position(|event| event.at > tick)
+        .unwrap_or(events.len());
+    for event in &events[..due] {
         happen(nodes, *event);
     }
-    events.len()
-}
-
-// A peer at which a round begins.
-fn begin(node: Node) -> Node
-    ensures { seat result ≡ begun (seat node) }
-{
-    let (rotation, holder) = node.rotation.turn();
-    Node {
-        id: node.id,
-        rotation,
-        holder,
-    }
+    due
 }
 
 // What is due up to the beginning of a round happens, and then it begins at each peer; the answer is how many events happened.
@@ -107,8 +81,8 @@ pub fn begin_round(nodes: &mut [Node], events: &[Event], round: u64) -> usize
     ensures fair { FairRounds }
 {
     let due = happen_till(nodes, events, round.saturating_mul(64));
-    for i in 0..nodes.len() {
-        nodes[i] = begin(nodes[i]);
+    for node in nodes.iter_mut() {
+        node.begin();
     }
     due
 }
@@ -118,14 +92,10 @@ pub fn seat_all(heap: Global, peers: &[Peer]) -> Result<Vec<Node>, AllocError>
     ensures { MatchResult result (λ v. seats v.items ≡ seated peers.now) (λ _. 0 < length (seated peers.now)) }
 {
     let mut nodes = Vec::new(heap);
+    // Each is pushed, since `collect` says nothing of when there is no memory, and this contract does.
     for peer in peers {
         if peer.honest {
-            let rotation = Rotation::new();
-            nodes.push(Node {
-                id: peer.id,
-                rotation,
-                holder: None,
-            })?;
+            nodes.push(Node::new(peer.id))?;
         }
     }
     Ok(nodes)

@@ -1,5 +1,5 @@
 // What a rotation does, each step by value.
-ghost use Rattle.std.specs.Prelude.{◌≡◌, List, [], ◌∷◌, is_ok, MatchResult};
+ghost use Rattle.std.specs.Prelude.{◌≡◌, ◌<◌, List, [], ◌∷◌, ◌++◌, is_ok, MatchResult};
 ghost use Rattle.rotation.specs.Rows.{row, room, meant, meant_all, nobody, Fair};
 ghost use Rattle.std.specs.Option.{option_to_list};
 ghost use Rattle.swarm.specs.Code.{taken};
@@ -27,12 +27,7 @@ impl Rotation {
     pub fn has(self, id: u64) -> bool
         ensures { result ≡ is_in id (row self) }
     {
-        for i in 0..self.count {
-            if self.ids[i] == id {
-                return true;
-            }
-        }
-        false
+        self.ids[..self.count].contains(&id)
     }
 
     // Can `id` join? It is there, or there are fewer than 64.
@@ -43,39 +38,40 @@ impl Rotation {
     }
 
     // With `id` at the end, or as it is where `id` is there; a 65th is refused.
-    pub fn join(self, id: u64) -> Result<Rotation, Fault>
+    pub fn join(mut self, id: u64) -> Result<Rotation, Fault>
         ensures taken { is_ok result ≡ room id (row self) }
         ensures after { MatchResult result (λ s. row s ≡ changed (Joins id ∷ []) (row self)) (λ e. (e ≡ Fault.TooMany) × (number e ≡ 8)) }
     {
         if self.has(id) {
             return Ok(self);
         }
-        let end = self.count;
-        if end >= 64 {
+        if self.count >= 64 {
             return Err(Fault::TooMany);
         }
-        let mut ids = self.ids;
-        ids[end] = id;
-        Ok(Rotation {
-            ids,
-            count: end + 1,
-        })
+        self.push(id);
+        Ok(self)
+    }
+
+    // `id` comes at the end, where there is room.
+    fn push(&mut self, id: u64)
+        requires { self.old.count < 64 }
+        ensures { row self.new ≡ row self.old ++ id ∷ [] }
+    {
+        self.ids[self.count] = id;
+        self.count += 1;
     }
 
     // Without `id`, the others in their order.
     pub fn leave(self, id: u64) -> Rotation
         ensures { row result ≡ without id (row self) }
     {
-        let mut ids = self.ids;
-        let mut stay = 0;
-        for i in 0..self.count {
-            let x = ids[i];
-            if x != id {
-                ids[stay] = x;
-                stay += 1;
+        let mut others = Rotation::new();
+        for other in &self.ids[..self.count] {
+            if *other != id {
+                others.push(*other);
             }
         }
-        Rotation { ids, count: stay }
+        others
     }
 
     // The first has the turn, and goes to the end.
@@ -91,7 +87,7 @@ impl Rotation {
         }
         let mut ids = self.ids;
         let holder = ids[0];
-        ids[0..count].rotate_left(1);
+        ids[..count].rotate_left(1);
         (Rotation { ids, count }, Some(holder))
     }
 
@@ -100,10 +96,7 @@ impl Rotation {
         ensures { row result ≡ changed (taken nobody (row self) (meant change ∷ [])) (row self) }
     {
         match change {
-            Change::Join(id) => match self.join(id) {
-                Ok(joined) => joined,
-                Err(_) => self,
-            },
+            Change::Join(id) => self.join(id).unwrap_or(self),
             Change::Leave(id) => self.leave(id),
         }
     }
@@ -112,11 +105,9 @@ impl Rotation {
     pub fn change_all(self, changes: &[Change]) -> Rotation
         ensures { row result ≡ changed (taken nobody (row self) (meant_all changes.now)) (row self) }
     {
-        let mut after = self;
-        for change in changes {
-            after = after.change(*change);
-        }
-        after
+        changes
+            .iter()
+            .fold(self, |after, change| after.change(*change))
     }
 
     // From one round to the next: the turn, then what changes in the round.

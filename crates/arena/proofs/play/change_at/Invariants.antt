@@ -4,5 +4,5 @@ use Rattle.arena.proofs.play.change_at.Given as goal
 use Rattle.arena.specs.Seats.{seat, change_at}
 use Rattle.rotation.specs.Rows.{meant_all}
 
-abbrev pub invariant-loop-i : goal.invariant-loop-i
-invariant-loop-i l = Mapped seat (change_at l.id (meant_all l.changes)) l.initial.nodes l.nodes l.i
+abbrev pub invariant-loop-node : goal.invariant-loop-node
+invariant-loop-node l = Mapped seat (change_at l.id (meant_all l.changes)) l.initial.nodes l.nodes l.node-index

@@ -1,29 +1,30 @@
--- An event that is due happens, and the first that is not ends it.
-use Rattle.std.proofs.Common.{◌+◌, drop, sym, refl, ap, ◌∙◌, arith}
-use Rattle.arena.proofs.Due.{happen_more, happen_stop, happen_end, due_more, due_stop, due_end}
+-- Those before the first that is not due happen.
+use Rattle.std.proofs.Common.{◌≡◌, not, ltb, unwrap_or, length, get_or, take, sym, ap, ◌∙◌, rules, tests, arith}
+use Rattle.arena.proofs.Due.{due_till-place, place_or_all, happened}
 use Rattle.arena.proofs.play.happen_till.Goals as goal
-use Rattle.arena.specs.Seats.{seats, happen_till}
+use Rattle.arena.specs.Seats.{seats, happens, due_till}
+use Rattle.script.proofs.Standing.{no_event}
+use Rattle.std.proofs.lemmas.Iterator.{YieldsList-from_slice}
+use Rattle.std.proofs.lemmas.Iterator.Search.{position_from_yields_List}
+use Rattle.std.proofs.lemmas.List.Sums.{fold_more, prefix_len-le-length}
+use Rattle.std.proofs.lemmas.List.{take_all}
+use Rattle.std.specs.List.{fold}
 
-pub loop-i-init : goal.loop-i-init
-loop-i-init c = (refl, omega arith)
-
-pub loop-i-preserved : goal.loop-i-preserved
-loop-i-preserved c = (
-  ap (happen_till c.args.tick (drop (c.loop-i.i + 1) c.args.events.now)) c.happen.ensures ∙
-      sym (happen_more c.args.tick c.args.events.now c.loop-i.i c.loop-i-test.true (seats c.loop-i.nodes) c.if-event-tick.false) ∙ c.loop-i.invariant.0,
-  due_more c.args.tick c.args.events.now c.loop-i.i c.loop-i-test.true c.if-event-tick.false c.loop-i.invariant.1,
-)
-
-pub returns-then-event-tick : goal.returns-then-event-tick
-returns-then-event-tick c = record {
-  after = sym (happen_stop c.args.tick c.args.events.now c.loop-i.i c.loop-i-test.true (seats c.loop-i.nodes) c.if-event-tick.true) ∙ c.loop-i.invariant.0;
-  due = due_stop c.args.tick c.args.events.now c.loop-i.i c.loop-i-test.true c.if-event-tick.true c.loop-i.invariant.1;
-  bound = omega arith;
-}
+pub loop-event-preserved : goal.loop-event-preserved
+loop-event-preserved c =
+    let es = take c.unwrap_or-due.result c.args.events.now in
+    let i = c.loop-event.event-index in
+    c.happen.ensures ∙ ap (happens (get_or es i no_event)) c.loop-event.invariant ∙ sym (fold_more (λ ss e. happens e ss) (seats c.args.nodes.now) es i no_event c.loop-event-test.true)
 
 pub returns : goal.returns
-returns c = record {
-  after = sym (happen_end c.args.tick c.args.events.now c.loop-i.i (seats c.loop-i.nodes) c.loop-i-test.false) ∙ c.loop-i.invariant.0;
-  due = due_end c.args.tick c.args.events.now c.loop-i.i c.loop-i-test.false (omega arith) c.loop-i.invariant.1;
-  bound = omega arith;
-}
+returns c =
+    let t = c.args.tick in
+    let es = c.args.events.now in
+    let found = position_from_yields_List (λ e. ltb t e.at) _ _ c.position.result c.position.ensures.ran (YieldsList-from_slice es cc) (λ x b q k. (search rules, search (rules, tests))) in
+    let few = prefix_len-le-length (λ e. not (ltb t e.at)) es in
+    let due : c.unwrap_or-due.result ≡ due_till t es = c.unwrap_or-due.ensures ∙ ap (λ r. unwrap_or r (length es)) found ∙ place_or_all _ _ few ∙ sym (due_till-place t es) in
+    record {
+      after = c.loop-event.invariant ∙ ap (fold (λ ss e. happens e ss) (seats c.args.nodes.now)) (take_all c.loop-event.event-index (take c.unwrap_or-due.result es) (omega arith) ∙ ap (λ n. take n es) due) ∙ sym (happened t es (seats c.args.nodes.now));
+      due = due;
+      bound = omega (arith, due_till-place t es, few, due);
+    }

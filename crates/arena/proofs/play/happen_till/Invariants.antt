@@ -1,9 +1,7 @@
--- What is left of the events makes of the seats as they are now what all of them make of them as they were.
-use Rattle.std.proofs.Common.{◌≡◌, ◌+◌, drop}
+-- The events before this place have happened.
+use Rattle.std.proofs.Common.{◌≡◌, fold, take}
 use Rattle.arena.proofs.play.happen_till.Given as goal
-use Rattle.arena.specs.Seats.{seats, happen_till, due_till}
+use Rattle.arena.specs.Seats.{seats, happens}
 
-abbrev pub invariant-loop-i : goal.invariant-loop-i
-invariant-loop-i l =
-    (happen_till l.tick (drop l.i l.events) (seats l.nodes) ≡ happen_till l.tick l.events (seats l.initial.nodes)) ×
-    (due_till l.tick l.events ≡ l.i + due_till l.tick (drop l.i l.events))
+abbrev pub invariant-loop-event : goal.invariant-loop-event
+invariant-loop-event l = seats l.nodes ≡ fold (λ ss e. happens e ss) (seats l.initial.nodes) (take l.event-index l.event-items)

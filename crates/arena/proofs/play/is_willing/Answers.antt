@@ -1,22 +1,11 @@
--- One who takes it is passed, and one who does not is the answer.
-use Rattle.std.proofs.Common.{sym, ◌∙◌, arith}
-use Rattle.arena.proofs.Willing.{willing-next, willing_end}
+-- The peers that are asked are all that it may be.
+use Rattle.std.proofs.Common.{◌∙◌, rules, tests}
+use Rattle.arena.proofs.Willing.{takes, all-willing}
 use Rattle.arena.proofs.play.is_willing.Goals as goal
-use Rattle.arena.proofs.play.is_willing.Goals.{else-node-id-via-then-node-id+else-not-takes, else-node-id-via-else-node-id}
-use Rattle.std.proofs.lemmas.Bool.Decides.{nat_tests}
-
-pub returns-then-not-takes : goal.returns-then-not-takes
-returns-then-not-takes c =
-    let e = willing-next c.args.id c.args.other c.args.nodes.now c.loop-node.node-index c.node-item.result c.loop-node-test.true c.node-item.is in
-    let n = c.if-not-takes.ensures in grind (arith, nat_tests)
-
-pub loop-node-preserved : goal.loop-node-preserved
-loop-node-preserved c =
-    let e = willing-next c.args.id c.args.other c.args.nodes.now c.loop-node.node-index c.node-item.result c.loop-node-test.true c.node-item.is in
-    elim c.else-node-id.branch [
-      | else-node-id-via-then-node-id+else-not-takes w ↦ let n = w.if-not-takes.ensures in grind (arith, nat_tests)
-      | else-node-id-via-else-node-id w ↦ grind (arith, nat_tests)
-    ]
+use Rattle.std.proofs.lemmas.Iterator.{YieldsList-from_slice}
+use Rattle.std.proofs.lemmas.Iterator.Search.{all_from_yields_List}
 
 pub returns : goal.returns
-returns c = sym (willing_end c.args.id c.args.other c.args.nodes.now c.loop-node.node-index c.loop-node-test.false) ∙ c.loop-node.invariant
+returns c =
+    all_from_yields_List (takes c.args.id c.args.other) _ _ c.all.result c.all.ensures.ran (YieldsList-from_slice c.args.nodes.now cc) (λ x b q k. (search rules, search (rules, tests))) ∙
+    all-willing c.args.id c.args.other c.args.nodes.now

@@ -1,6 +1,6 @@
 -- An honest peer is seated after those before it, and a faulty one is passed.
-use Rattle.std.proofs.Common.{ℕ, List, [], ◌++◌, get_or, vec_items, sym, ap, ◌∙◌, append-nil}
-use Rattle.arena.proofs.Due.{no_peer, seated_honest, seated_faulty, seated_some, seated_end}
+use Rattle.std.proofs.Common.{◌++◌, vec_items, sym, ap, ◌∙◌, append-nil}
+use Rattle.arena.proofs.Due.{seated_honest, seated_faulty, seated_some, seated_end}
 use Rattle.arena.proofs.play.seat_all.Goals as goal
 use Rattle.arena.proofs.play.seat_all.Goals.{then-peer+in_ok-push, else-peer}
 use Rattle.arena.specs.Seats.{seats}
@@ -12,8 +12,7 @@ loop-peer-preserved c =
     let after = vec_items c.if-peer.nodes in
     elim c.if-peer.branch [
       | then-peer+in_ok-push w ↦
-          seated_honest before after c.args.peers.now c.loop-peer.peer-index c.loop-peer-test.true c.loop-peer.invariant _ w.if-peer.true
-          (ap (λ (ids : List ℕ). record { id = (get_or c.args.peers.now c.loop-peer.peer-index no_peer).id; row = ids; holder = [] }) w.new-rotation.ensures) (ap vec_items w.nodes-is ∙ w.in_ok-push.ensures.items)
+          seated_honest before after c.args.peers.now c.loop-peer.peer-index c.loop-peer-test.true c.loop-peer.invariant _ w.if-peer.true w.new.ensures (ap vec_items w.nodes-is ∙ w.in_ok-push.ensures.items)
       | else-peer w ↦
           seated_faulty before after c.args.peers.now c.loop-peer.peer-index c.loop-peer-test.true c.loop-peer.invariant w.if-peer.false (ap vec_items w.nodes-is)
     ]

@@ -1,24 +1,25 @@
--- Each id that is looked at stays in front if it is another.
-use Rattle.std.proofs.Common.{◌≡◌, ◌<◌, length, get_or, take, ap, ◌∙◌, arith}
-use Rattle.rotation.proofs.InRow.{without-kept}
+-- Each id that is looked at is left if it is another.
+use Rattle.std.proofs.Common.{[], ◌∷◌, ◌++◌, length, get_or, take, ap, sym, ◌∙◌, arith, length-take}
+use Rattle.rotation.proofs.InRow.{length-without, without-more_kept, without-more_gone}
 use Rattle.rotation.proofs.row.Rotation.leave.Goals as goal
-use Rattle.rotation.proofs.row.Rotation.leave.Goals.{then-x-id, else-x-id}
-use Rattle.std.proofs.lemmas.List.Filters.{FiltersInPlace-more_set, FiltersInPlace-more_no}
-use Rattle.std.proofs.lemmas.List.{get_or_default}
-use Rattle.std.proofs.lemmas.Bool.Decides.{nat_tests}
+use Rattle.rotation.proofs.row.Rotation.leave.Goals.{then-other-id, else-other-id}
+use Rattle.rotation.specs.Rows.{row}
+use Rattle.std.proofs.lemmas.List.{length-take-le}
 use Rattle.swarm.specs.Turns.{without}
 
-pub loop-i-preserved : goal.loop-i-preserved
-loop-i-preserved c =
-    let h : c.loop-i.i < length c.loop-i.ids = omega arith in
-    let x = get_or c.loop-i.ids c.loop-i.i 0 in
-    let e = get_or_default c.loop-i.ids c.loop-i.i 0 x h in
-    elim c.if-x-id.branch [
-      | then-x-id w ↦ rw (w.ids-is, w.stay-is) (FiltersInPlace-more_set {x = x} c.loop-i.invariant h (grind (arith, nat_tests)) e)
-      | else-x-id w ↦ rw (w.ids-is, w.stay-is) (FiltersInPlace-more_no {x = x} c.loop-i.invariant h (grind (arith, nat_tests)) e)
-    ]
+pub loop-other-init : goal.loop-other-init
+unfolding without
+loop-other-init c = c.new-others.ensures
 
-pub returns : goal.returns
-returns c =
-    let e : c.loop-i.i ≡ c.args.self.count = omega arith in
-    c.loop-i.invariant.front ∙ without-kept c.args.id (take c.loop-i.i c.args.self.ids) ∙ ap (λ n. without c.args.id (take n c.args.self.ids)) e
+pub push-requires : goal.push-requires
+push-requires c =
+    let seen = take c.loop-other.other-index (row c.args.self) in
+    let many = length-take-le c.loop-other.others.count c.loop-other.others.ids (omega arith) in
+    let few = length-without c.args.id seen in
+    omega (arith, ap length c.loop-other.invariant, length-take c.loop-other.other-index (row c.args.self))
+
+pub loop-other-preserved : goal.loop-other-preserved
+loop-other-preserved c = elim c.if-other-id.branch [
+  | then-other-id w ↦ rw w.others-is (w.push.ensures ∙ ap (λ xs. xs ++ get_or (row c.args.self) c.loop-other.other-index 0 ∷ []) c.loop-other.invariant ∙ sym (without-more_kept c.args.id (row c.args.self) c.loop-other.other-index c.loop-other-test.true w.if-other-id.true))
+  | else-other-id w ↦ rw w.others-is (c.loop-other.invariant ∙ sym (without-more_gone c.args.id (row c.args.self) c.loop-other.other-index c.loop-other-test.true w.if-other-id.false))
+]

@@ -1,7 +1,8 @@
--- The others among the first ids stand in front, in their order.
-use Rattle.std.proofs.Common.{not, eqb}
+-- The others among the ids that were looked at are there, in their order.
+use Rattle.std.proofs.Common.{◌≡◌, take}
 use Rattle.rotation.proofs.row.Rotation.leave.Given as goal
-use Rattle.std.proofs.lemmas.List.Filters.{FiltersInPlace}
+use Rattle.rotation.specs.Rows.{row}
+use Rattle.swarm.specs.Turns.{without}
 
-abbrev pub invariant-loop-i : goal.invariant-loop-i
-invariant-loop-i l = FiltersInPlace (λ x. not (eqb x l.id)) l.initial.ids l.ids l.stay l.i
+abbrev pub invariant-loop-other : goal.invariant-loop-other
+invariant-loop-other l = row l.others ≡ without l.id (take l.other-index l.other-items)
