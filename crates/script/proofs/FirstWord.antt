@@ -1,11 +1,14 @@
 -- The words of a line are the bytes of words after its first blanks, and then the words of what follows.
 use Rattle.std.proofs.Common.{◌≡◌, ℕ, Bool, true, false, cond, eqb, List, [], ◌∷◌, length, take, drop, sym, refl, ap, ◌∙◌, subst, ap₂, one-add, arith}
-use native.Mathlib.Nat.{sub-zero}
-use Rattle.script.specs.Words.{blank, in_word, goes_on, grown, put, words}
-use Rattle.std.proofs.lemmas.List.{take_rest}
-use Rattle.std.proofs.lemmas.Bool.{cond-true}
+use Rattle.script.specs.Words.{blank, in_word, goes_on, grown, words}
+use Rattle.std.proofs.lemmas.Bool.{cond-true, eqb-true, false≢true}
 use Rattle.std.proofs.lemmas.Bool.Decides.{nat_tests}
-use Rattle.std.specs.List.{prefix_len, between}
+use Rattle.std.specs.List.{prefix_len}
+
+-- a word in front of others, where it is one
+abbrev put : List ℕ → List (List ℕ) → List (List ℕ)
+put [] ws = []
+put (b ∷ w) ws = (b ∷ w) ∷ ws
 
 -- the bytes of a word in front, and what follows them
 abbrev front : List ℕ → List ℕ
@@ -71,13 +74,23 @@ first_split (x ∷ xs) = step (blank x) refl (first_split xs)
         let u : unblank (x ∷ xs) ≡ x ∷ xs = rw e in
         subst (Split (x ∷ xs)) (sym u) (word_or_none x xs e)
 
--- the rest of a list from a place on, as code cuts it off
-abbrev from : ℕ → List ℕ → List ℕ
-from i xs = between i (length xs) xs
+-- the first word of a line is what is cut off after its blanks, or there is none
+module _ (xs line word rest : List ℕ) (i n : ℕ) (blanks : i ≡ prefix_len blank xs) (cut : line ≡ drop i xs) (end : n ≡ prefix_len in_word line) (first : word ≡ take n line) (more : rest ≡ drop n line) where
+  split_off : words xs ≡ put word (words rest)
+  split_off =
+      let at_word : line ≡ unblank xs = cut ∙ ap (λ n. drop n xs) blanks in
+      subst (Split xs) (sym at_word) (first_split xs) ∙ sym (ap₂ (λ w r. put w (words r)) (first ∙ ap (λ n. take n line) end) (more ∙ ap (λ n. drop n line) end))
 
-pub first_word : (xs : List ℕ) (i n : ℕ) → i ≡ prefix_len blank xs → n ≡ prefix_len in_word (from i xs) → words xs ≡ put (between 0 n (from i xs)) (words (from n (from i xs)))
-first_word xs i n ei en =
-    let left : from i xs ≡ unblank xs = take_rest xs i ∙ ap (λ n. drop n xs) ei in
-    let word : between 0 n (from i xs) ≡ front (from i xs) = ap (λ n. take n (from i xs)) (sub-zero n ∙ en) in
-    let rest : from n (from i xs) ≡ behind (from i xs) = take_rest (from i xs) n ∙ ap (λ n. drop n (from i xs)) en in
-    subst (Split xs) (sym left) (first_split xs) ∙ sym (ap₂ (λ w r. put w (words r)) word rest)
+  pub no_word : true ≡ eqb (length word) 0 → words xs ≡ []
+  no_word e = split_off ∙ none word e
+    where
+      none : (w : List ℕ) → true ≡ eqb (length w) 0 → put w (words rest) ≡ []
+      none [] e = refl
+      none (b ∷ w) e = let long = eqb-true (length (b ∷ w)) 0 (sym e) in absurd (omega arith)
+
+  pub one_word : false ≡ eqb (length word) 0 → words xs ≡ word ∷ words rest
+  one_word e = split_off ∙ one word e
+    where
+      one : (w : List ℕ) → false ≡ eqb (length w) 0 → put w (words rest) ≡ w ∷ words rest
+      one [] e = absurd (false≢true e)
+      one (b ∷ w) e = refl

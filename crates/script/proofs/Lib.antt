@@ -1,15 +1,12 @@
 pub mod Exits
-pub mod FirstLine
 pub mod FirstWord
 pub mod Inserting
-pub mod Leading
-pub mod NextPart
 pub mod NumeralExact
 pub mod ReadDigits
 pub mod ReadWritten
 pub mod Reading
 pub mod SameWord
 pub mod ScriptSound
-pub mod Seeking
+pub mod Searching
 pub mod Standing
 pub mod WrittenRead

@@ -1,38 +1,20 @@
 -- What is left to read of a text makes, line by line, what the whole of it makes.
-use Rattle.std.proofs.Common.{◌≡◌, ℕ, suc, ◌<◌, Bool, true, false, ◌||◌, List, [], ◌∷◌, length, IsErrAnd, Some, None, Ok, Err, Option, Result, sym, refl, ap, ◌∙◌, subst, arith, Bor, MatchOption}
-use Rattle.script.specs.Sheets.{Sheet, Reads, sheet, whole, next_line, numbered, with_words, with_lines, kept_line, kept_lines}
+use Rattle.std.proofs.Common.{◌≡◌, ℕ, Bool, true, false, ◌||◌, List, [], ◌∷◌, IsErrAnd, Some, None, Ok, Err, Option, Result, sym, refl, ap, ◌∙◌, subst, Bor}
+use Rattle.script.specs.Sheets.{Sheet, Reads, blank_sheet, sheet, whole, next_line, numbered, with_words, with_lines, kept_line, kept_lines}
 use Rattle.script.specs.Words.{words, lines}
 use Rattle.script.specs.declared.sheet.BadLine.{BadLine}
 use Rattle.script.specs.declared.sheet.ReadFault.{ReadFault}
 use Rattle.script.specs.declared.sheet.ReadFault.TheVariants.{Line, OutOfMemory}
 use Rattle.script.specs.declared.sheet.Script.{Script}
+use Rattle.std.specs.Iterator.{AlwaysYields}
 use Rattle.std.proofs.lemmas.Bool.{or_left, or_right}
 
--- the lines that are left
-abbrev pub left_lines : Option (Bor (List ℕ)) → List (List ℕ)
-left_lines None = []
-left_lines (Some t) = lines t.now
-
--- a number that falls with each line
-abbrev pub left : Option (Bor (List ℕ)) → ℕ
-left None = 0
-left (Some t) = suc (length t.now)
-
--- the first line of a text, and what follows it
-abbrev First : List ℕ → List ℕ → Option (Bor (List ℕ)) → Type 0
-First text line after = MatchOption after (lines text ≡ line ∷ []) (λ rest. (lines text ≡ line ∷ lines rest.now) × (length rest.now < length text))
-
-pub lines-first : (text line : List ℕ) (after : Option (Bor (List ℕ))) → First text line after → lines text ≡ line ∷ left_lines after
-lines-first text line None h = h
-lines-first text line (Some t) h = h.0
-
-pub left_less : (text line : List ℕ) (after : Option (Bor (List ℕ))) → First text line after → left after < suc (length text)
-left_less text line None h = omega arith
-left_less text line (Some t) h = omega (arith, h.1)
-
--- what is left begins with that line
-pub left_first : (rest : Option (Bor (List ℕ))) (text : Bor (List ℕ)) (line : List ℕ) (after : Option (Bor (List ℕ))) → rest ≡ Some text → First text.now line after → left_lines rest ≡ line ∷ left_lines after
-left_first rest text line after e h = ap left_lines e ∙ lines-first text.now line after h
+-- an iterator gives lines that make of a sheet after line n what all lines of the text make of a blank one, and want memory only if those do
+pub record Toward {S : Type 0} (steps : S → Option (Bor (List ℕ)) → S → Type 0) (it : S) (text : List ℕ) (n : ℕ) (s : Sheet) : Type 0 where
+  pub rest : List (List ℕ)
+  pub gives : AlwaysYields steps (λ line. line.now) it rest
+  pub makes : with_lines n s rest ≡ with_lines 0 blank_sheet (lines text)
+  pub wants : kept_lines n s rest ≡ true → kept_lines 0 blank_sheet (lines text) ≡ true
 
 -- what follows a line that is read
 abbrev go_on : ℕ → List (List ℕ) → Result Sheet BadLine → Result Sheet BadLine
@@ -73,3 +55,20 @@ pub reads_whole : {wants wants' : Type 0} {said said' : Result Sheet BadLine} (r
 reads_whole (Ok s) f e h = sym e ∙ h
 reads_whole (Err (Line b)) f e h = sym e ∙ h
 reads_whole (Err OutOfMemory) f e h = f h
+
+module _ {S : Type 0} (steps : S → Option (Bor (List ℕ)) → S → Type 0) (it next : S) (text : List ℕ) (n : ℕ) (s : Sheet) (t : Toward steps it text n s) where
+  -- where the iterator ends, no line is left
+  pub none_left : steps it None next → t.rest ≡ []
+  none_left end = go t.rest t.gives
+    where
+      go : (ls : List (List ℕ)) → AlwaysYields steps (λ line. line.now) it ls → ls ≡ []
+      go [] g = refl
+      go (l ∷ ls) g = absurd (g.0 next end)
+
+  -- where it gives a line, that is the first that was left
+  pub first_left : (line : Bor (List ℕ)) → steps it (Some line) next → (ls : List (List ℕ)) × (t.rest ≡ line.now ∷ ls) × AlwaysYields steps (λ line. line.now) next ls
+  first_left line here = go t.rest t.gives
+    where
+      go : (rest : List (List ℕ)) → AlwaysYields steps (λ line. line.now) it rest → (ls : List (List ℕ)) × (rest ≡ line.now ∷ ls) × AlwaysYields steps (λ line. line.now) next ls
+      go [] g = absurd (g line next here)
+      go (l ∷ ls) g = let p = g.1 line next here in (ls, ap (λ l. l ∷ ls) (sym p.0), p.1)

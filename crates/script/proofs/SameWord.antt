@@ -1,27 +1,37 @@
 -- The test of a word against another tells whether they are the same, and so which statement a line is.
-use Rattle.std.proofs.Common.{◌≡◌, ℕ, true, false, List, [], ◌∷◌, Err, codes, Decides, sym, ap, ◌∙◌, ⊎_elim, rules}
-use Rattle.script.specs.Statements.{is, later, statement}
-use Rattle.script.specs.Words.{put}
+use Rattle.std.proofs.Common.{◌≡◌, ℕ, Bool, true, false, List, [], ◌∷◌, Err, codes, Decides, refl, sym, subst, nat_lt}
+use Rattle.script.specs.Statements.{is, statement}
 use Rattle.script.specs.declared.statement.Expected.TheVariants as Expected
-use Rattle.std.proofs.lemmas.Slice.Eq.{compares_Decides}
-use Rattle.std.proofs.lemmas.Bool.{or_cases}
+use Rattle.std.proofs.lemmas.Slice.Eq.{bytes_eq-Decides}
+use Rattle.std.proofs.lemmas.Bool.{and_parts, ltb-true}
+use Rattle.std.proofs.lemmas.Str.{IsUtf8-from_ascii}
+use Rattle.std.proofs.lemmas.Str.Ascii.{IsAscii-nil, IsAscii-cons}
+use Rattle.std.specs.List.{list_all}
+use Rattle.std.specs.Str.{IsAscii, IsUtf8}
 
 pub is_decides : (xs ys : List ℕ) → Decides (is xs ys) (xs ≡ ys)
-unfolding is
-is_decides = compares_Decides is (search rules)
+is_decides = bytes_eq-Decides
 
--- a line is the statement that its first word says
-pub first_says : (k w : List ℕ) (ws all : List (List ℕ)) → all ≡ put w ws → true ≡ is w k → statement (put k ws) ≡ statement all
-first_says k w ws all e h = sym (ap statement e ∙ ap (λ w. statement (put w ws)) ((is_decides w k).0 (sym h)))
-
-pub later_says : (w : List ℕ) (ws all : List (List ℕ)) → all ≡ put w ws → true ≡ later w → Err Expected.Played ≡ statement all
-unfolding is
-later_says w ws all e h = ⊎_elim (at (codes "pieces")) (λ h. ⊎_elim (at (codes "fall")) (λ h. ⊎_elim (at (codes "disk")) (at (codes "say")) (or_cases _ _ h)) (or_cases _ _ h)) (or_cases _ _ (sym h))
+-- two words that differ are not the same
+pub is_not : (w k : List ℕ) → (w ≡ k → ⊥) → is w k ≡ false
+is_not w k other = go (is w k) (is_decides w k).0
   where
-    at : (k : List ℕ) → is w k ≡ true → statement (put k ws) ≡ statement all
-    at k h = first_says k w ws all e (sym h)
+    go : (b : Bool) → (b ≡ true → w ≡ k) → b ≡ false
+    go true h = absurd (other (h refl))
+    go false h = refl
 
-pub none_says : (w : List ℕ) (ws all : List (List ℕ)) → all ≡ put w ws → false ≡ is w (codes "peer") → false ≡ is w (codes "false") → false ≡ is w (codes "link") →
-    false ≡ is w (codes "break") → false ≡ is w (codes "rounds") → false ≡ later w → Err Expected.Statement ≡ statement all
-none_says [] ws all e p f l b r h = sym (ap statement e)
-none_says (x ∷ w) ws all e p f l b r h = sym (ap statement e ∙ rw (← p, ← f, ← l, ← b, ← r, ← h))
+-- a name that no statement has
+pub none_says : (w : List ℕ) (ws : List (List ℕ)) → (w ≡ codes "peer" → ⊥) → (w ≡ codes "false" → ⊥) → (w ≡ codes "link" → ⊥) → (w ≡ codes "break" → ⊥) → (w ≡ codes "rounds" → ⊥) →
+    (w ≡ codes "pieces" → ⊥) → (w ≡ codes "fall" → ⊥) → (w ≡ codes "disk" → ⊥) → (w ≡ codes "say" → ⊥) → statement (w ∷ ws) ≡ Err Expected.Statement
+none_says w ws p f l b r i a d s =
+    rw (is_not w _ p, is_not w _ f, is_not w _ l, is_not w _ b, is_not w _ r, is_not w _ i, is_not w _ a, is_not w _ d, is_not w _ s)
+
+ascii : (bs : List ℕ) → list_all (λ b. nat_lt b 128) bs ≡ true → IsAscii bs
+ascii [] h = IsAscii-nil
+ascii (b ∷ bs) h = let p = and_parts (nat_lt b 128) (list_all (λ b. nat_lt b 128) bs) h in IsAscii-cons b bs (ltb-true b 128 p.0) (ascii bs p.1)
+
+-- what is no text is no statement's name
+pub no_text_says : (w : List ℕ) (ws : List (List ℕ)) → ¬ IsUtf8 w → statement (w ∷ ws) ≡ Err Expected.Statement
+no_text_says w ws bad =
+    let other : (k : List ℕ) → list_all (λ b. nat_lt b 128) k ≡ true → w ≡ k → ⊥ = λ k a e. bad (subst IsUtf8 (sym e) (IsUtf8-from_ascii k (ascii k a))) in
+    none_says w ws (other _ refl) (other _ refl) (other _ refl) (other _ refl) (other _ refl) (other _ refl) (other _ refl) (other _ refl) (other _ refl)

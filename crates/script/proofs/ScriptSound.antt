@@ -1,6 +1,6 @@
 -- Whatever text is read as a script is sound.
 use Rattle.std.proofs.Common.{◌≡◌, ℕ, ◌<◌, ◌≤◌, ◌&&◌, eqb, List, [], ◌∷◌, is_some, Some, None, Ok, Err, Option, Result, refl, ap, subst, arith}
-use Rattle.script.proofs.Inserting.{all_inserted, ordered_inserted, known_inserted, unknown_all}
+use Rattle.script.proofs.Inserting.{all_inserted, known_inserted, peers_inserted, events_inserted}
 use Rattle.script.specs.Sheets.{Sheet, blank_sheet, known, number_of, tick_of, with_peer, with_event, with_statement, more, with_words, next_line, numbered, with_lines, bad_break, finished}
 use Rattle.script.specs.Sound.{Ordered, Ends, Sound, ScriptSound}
 use Rattle.script.specs.Statements.{Read, statement}
@@ -10,7 +10,7 @@ use Rattle.script.specs.declared.sheet.Event.{Event}
 use Rattle.script.specs.declared.sheet.Peer.{Peer}
 use Rattle.script.specs.declared.statement.Expected.{Expected}
 use Rattle.script.specs.declared.statement.Statement.{Statement}
-use Rattle.std.proofs.ByRecursion.{All-weaker, all_from_every}
+use Rattle.std.proofs.ByRecursion.{All-weaker}
 use Rattle.std.proofs.lemmas.Bool.{cond_both, and_parts}
 use Rattle.std.specs.List.{AllByRecursion}
 
@@ -31,8 +31,7 @@ err_ok b t h = let z : ◌≡◌ {A = ℕ} 0 1 = cc in absurd (omega arith)
 module _ (s : Sheet) (g : Good s) where
   peer_kept : (p : Peer) → Keeps (with_peer p s)
   peer_kept p = cond_both (known p.id s.peers) (Err Expected.NewPeer) _ Keeps (λ _. tt) λ new. record {
-    peers_rise = ordered_inserted number_of (λ p q. number_of p < number_of q) p (λ q l. l) (λ q r l m. omega arith) s.peers
-        (All-weaker _ _ (λ q other l. omega arith) s.peers (unknown_all p.id s.peers new)) g.peers_rise;
+    peers_rise = peers_inserted s.peers p new g.peers_rise;
     events_rise = g.events_rise;
     ends = All-weaker _ _ (λ e h. (known_inserted e.a s.peers _ p h.0, known_inserted e.b s.peers _ p h.1, h.2)) s.events g.ends;
   }
@@ -41,8 +40,7 @@ module _ (s : Sheet) (g : Good s) where
   event_kept e = cond_both (known e.a s.peers && known e.b s.peers) _ (Err Expected.KnownPeer) Keeps
       (λ both. cond_both (eqb e.a e.b) (Err Expected.OtherPeer) _ Keeps (λ _. tt) λ apart. let h = and_parts _ _ both in record {
         peers_rise = g.peers_rise;
-        events_rise = ordered_inserted tick_of (λ e f. tick_of e ≤ tick_of f) e (λ f l. omega arith) (λ f k l m. omega arith) s.events
-            (all_from_every _ s.events (λ _ _ _ _ l. l)) g.events_rise;
+        events_rise = events_inserted s.events e g.events_rise;
         ends = all_inserted (Ends s.peers) s.events _ e g.ends (h.0, h.1, apart);
       })
       (λ _. tt)
@@ -93,4 +91,4 @@ lines_sound (l ∷ ls) n s t g h = go (with_words (next_line n) s (words l)) (wo
     go (Err e) k on h = err_ok _ t h
 
 pub script_sound : ScriptSound
-script_sound text s h = lines_sound (lines text) 0 blank_sheet s (record { peers_rise = tt; events_rise = tt; ends = tt }) h
+script_sound text s h = lines_sound (lines text) 0 blank_sheet s (record { peers_rise = λ i j d l m. absurd (omega arith); events_rise = λ i j d l m. absurd (omega arith); ends = tt }) h

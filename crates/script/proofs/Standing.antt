@@ -1,6 +1,6 @@
--- Events that are looked at one after the other tell whether a link stands, and which break is the first bad one.
-use Rattle.std.proofs.Common.{◌≡◌, ℕ, ◌+◌, ◌<◌, ◌≤◌, Bool, true, false, cond, ◌||◌, List, [], ◌∷◌, ◌++◌, length, get_or, take, drop, Some, None, sym, ap, ◌∙◌}
-use Rattle.script.specs.Sheets.{same_pair, opening, stands, bad_break}
+-- Events that are looked at one after the other tell which break is the first bad one.
+use Rattle.std.proofs.Common.{◌≡◌, ℕ, ◌+◌, ◌<◌, ◌≤◌, true, false, cond, ◌||◌, List, [], ◌∷◌, ◌++◌, length, get_or, take, drop, Some, None, sym, ap, ◌∙◌}
+use Rattle.script.specs.Sheets.{opening, stands, bad_break}
 use Rattle.script.specs.declared.sheet.Event.{Event}
 use Rattle.script.specs.declared.sheet.LinkEvent.TheVariants.{Opens}
 use Rattle.std.proofs.lemmas.List.{at_drop_more, at_drop_all, take_more}
@@ -9,15 +9,6 @@ use Rattle.std.proofs.lemmas.Bool.{cond-true, cond-false}
 -- what the code reads past the end
 abbrev pub no_event : Event
 no_event = record { at = 0; a = 0; b = 0; what = Opens 0; line = 0 }
-
-pub stands-next : (e : Event) (before : Bool) (fs : List Event) (i : ℕ) → i < length fs →
-    stands e before (drop i fs) ≡ stands e (cond (same_pair (get_or fs i no_event) e) (opening (get_or fs i no_event).what) before) (drop (i + 1) fs)
-unfolding stands
-stands-next e before fs i h = at_drop_more (stands e before) fs i no_event h
-
-pub stands_end : (e : Event) (before : Bool) (fs : List Event) (i : ℕ) → length fs ≤ i → stands e before (drop i fs) ≡ before
-unfolding stands
-stands_end e before fs i l = at_drop_all (stands e before) fs i l
 
 -- the first bad break after the first i events
 abbrev From : List Event → ℕ → Type 0

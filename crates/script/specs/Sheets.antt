@@ -1,21 +1,19 @@
 -- What a script says, statement by statement. Assumes nothing.
-use Rattle.std.specs.Prelude.{◌≡◌, ℕ, suc, ◌+◌, min, Bool, true, false, cond, ◌&&◌, ◌||◌, List, [], ◌∷◌, ◌++◌, is_ok, Some, None, Ok, Err, vec_items, Option, Result, ◌==◌, nat_lt}
+use Rattle.std.specs.Prelude.{◌≡◌, ℕ, ◌+◌, min, Bool, true, false, cond, ◌&&◌, ◌||◌, List, [], ◌∷◌, ◌++◌, is_ok, Some, None, Ok, Err, vec_items, Option, Result, ◌==◌, nat_lt}
 use Rattle.script.specs.Statements.{statement, most}
 use Rattle.script.specs.Words.{words, lines}
 use Rattle.script.specs.declared.sheet.BadLine.{BadLine}
-use Rattle.script.specs.declared.sheet.Draft.{Draft}
+use Rattle.script.specs.declared.draft.Draft.{Draft}
 use Rattle.script.specs.declared.sheet.Event.{Event}
 use Rattle.script.specs.declared.sheet.LinkEvent.{LinkEvent}
 use Rattle.script.specs.declared.sheet.LinkEvent.TheVariants.{Opens, Breaks}
 use Rattle.script.specs.declared.sheet.Peer.{Peer}
 use Rattle.script.specs.declared.sheet.ReadFault.{ReadFault}
 use Rattle.script.specs.declared.sheet.ReadFault.TheVariants.{Line, OutOfMemory}
-use Rattle.script.specs.declared.sheet.Refusal.{Refusal}
-use Rattle.script.specs.declared.sheet.Refusal.TheVariants.{Bad, NoMemory}
 use Rattle.script.specs.declared.sheet.Script.{Script}
 use Rattle.script.specs.declared.statement.Expected.{Expected}
 use Rattle.script.specs.declared.statement.Statement.{Statement}
-use Rattle.std.specs.List.{insert}
+use Rattle.std.specs.List.{insert, fold, list_any, position_or_len}
 
 -- peers by their numbers, events by their ticks and lines, and how many rounds, once that is said
 pub record Sheet : Type 0 where
@@ -34,14 +32,12 @@ abbrev pub whole : Script → Sheet
 whole s = record { peers = vec_items s.peers; events = vec_items s.events; rounds = Some s.rounds }
 
 -- is a peer of that number there
-unfoldable pub known : ℕ → List Peer → Bool
-known n [] = false
-known n (p ∷ ps) = p.id == n || known n ps
+abbrev pub known : ℕ → List Peer → Bool
+known n ps = list_any (λ p. p.id == n) ps
 
 -- before how many items one of that key stands that is read after them: the first of a greater key
-unfoldable pub place : {X : Type 0} → (X → ℕ) → ℕ → List X → ℕ
-place key n [] = 0
-place key n (x ∷ xs) = cond (nat_lt n (key x)) 0 (suc (place key n xs))
+abbrev pub place : {X : Type 0} → (X → ℕ) → ℕ → List X → ℕ
+place key n xs = position_or_len (λ x. nat_lt n (key x)) xs
 
 -- peers stand by their numbers, events by their ticks
 abbrev pub number_of : Peer → ℕ
@@ -70,12 +66,6 @@ with_statement line (Statement.Rounds n) s = Ok (record { peers = s.peers; event
 abbrev pub more : ℕ → Sheet → Statement → Result Sheet Expected
 more line s st = elim s.rounds [ None ↦ with_statement line st s | Some n ↦ Err Expected.Nothing ]
 
--- an answer is the sheet's; or there was no memory, which can be only where this is so
-abbrev pub Answers : Type 0 → Result Sheet Expected → Result Draft Refusal → Type 0
-Answers wants said (Ok s) = said ≡ Ok (sheet s)
-Answers wants said (Err (Bad e)) = said ≡ Err e
-Answers wants said (Err NoMemory) = wants
-
 -- does a statement want memory
 abbrev pub kept : Statement → Bool
 kept (Statement.Peer n) = true
@@ -93,9 +83,8 @@ opening (Opens d) = true
 opening Breaks = false
 
 -- does the link of an event stand after others, the earliest first, if it stood or not before them
-unfoldable pub stands : Event → Bool → List Event → Bool
-stands e before [] = before
-stands e before (f ∷ fs) = stands e (cond (same_pair f e) (opening f.what) before) fs
+abbrev pub stands : Event → Bool → List Event → Bool
+stands e before fs = fold (λ standing f. cond (same_pair f e) (opening f.what) standing) before fs
 
 -- the line of the first event that breaks a link which does not stand, after those that came before
 unfoldable pub bad_break : List Event → List Event → Option ℕ

@@ -1,5 +1,5 @@
 -- What a script that is read can be relied on for. Assumes nothing.
-use Rattle.std.specs.Prelude.{◌≡◌, ℕ, ◌<◌, ◌≤◌, true, false, List, [], ◌∷◌, is_some, None, Ok, ◌==◌}
+use Rattle.std.specs.Prelude.{◌≡◌, ℕ, ◌<◌, ◌≤◌, true, false, List, [], AllPairs, is_some, None, Ok, ◌==◌}
 use Rattle.script.specs.Sheets.{Sheet, known, number_of, tick_of, bad_break, script}
 use Rattle.script.specs.declared.sheet.Event.{Event}
 use Rattle.script.specs.declared.sheet.Peer.{Peer}
@@ -7,8 +7,7 @@ use Rattle.std.specs.List.{AllByRecursion}
 
 -- each item stands so to all that follow it
 abbrev pub Ordered : {X : Type 0} → (X → X → Type 0) → List X → Type 0
-Ordered R [] = Unit {0}
-Ordered R (x ∷ xs) = AllByRecursion (R x) xs × Ordered R xs
+Ordered R xs = AllPairs R xs
 
 -- both ends of an event are peers of the script, and different
 abbrev pub Ends : List Peer → Event → Type 0

@@ -1,18 +1,20 @@
 -- The statement that the words of a line are, or what they should have been. Assumes nothing.
-use Rattle.std.specs.Prelude.{ℕ, Bool, true, false, cond, ◌&&◌, ◌||◌, List, [], ◌∷◌, Some, None, Ok, Err, codes, Result, ◌==◌, nat_le}
+use Rattle.std.specs.Prelude.{◌≡◌, ℕ, Bool, cond, ◌&&◌, ◌||◌, List, [], ◌∷◌, Some, None, Ok, Err, codes, Result, MatchResult, nat_le}
 use Rattle.script.specs.Words.{numeral}
 use Rattle.script.specs.declared.statement.Expected.{Expected}
 use Rattle.script.specs.declared.statement.Statement.{Statement}
+use Rattle.std.specs.Str.{bytes_eq}
 
 abbrev pub Read : Type 0
 Read = Result Statement Expected
 
+-- what is read of a part with what follows it: a result hands on what was taken, with the words that are left, and a fault is the whole's
+abbrev pub Takes : {X : Type 0} → ((X → List (List ℕ) → Read) → Read) → List (List ℕ) → Result X Expected → Type 0
+Takes {X} read left result = (next : X → List (List ℕ) → Read) → MatchResult result (λ x. read next ≡ next x left) (λ e. read next ≡ Err e)
+
 -- is it that word
-unfoldable pub is : List ℕ → List ℕ → Bool
-is [] [] = true
-is [] (y ∷ ys) = false
-is (x ∷ xs) [] = false
-is (x ∷ xs) (y ∷ ys) = x == y && is xs ys
+abbrev pub is : List ℕ → List ℕ → Bool
+is w k = bytes_eq w k
 
 -- the next word is a number from low to high, and with it the words after it are read; else something else was expected
 abbrev pub number : (low high : ℕ) → Expected → List (List ℕ) → (ℕ → List (List ℕ) → Read) → Read

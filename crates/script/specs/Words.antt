@@ -1,5 +1,7 @@
 -- The lines of a text, the words of a line, and the number that a word is. Assumes nothing.
 use Rattle.std.specs.Prelude.{ℕ, ◌+◌, ◌-◌, ◌*◌, ◌^◌, Bool, false, cond, not, ◌&&◌, ◌||◌, List, [], ◌∷◌, length, Some, None, Option, ◌==◌, nat_lt, slice_index}
+use Rattle.script.specs.declared.words.Words.{Words}
+use Rattle.std.specs.List.{slice_split}
 use Rattle.std.specs.Str.{all_ascii_digits}
 
 -- a space, a tab or a carriage return
@@ -25,20 +27,13 @@ unfoldable pub words : List ℕ → List (List ℕ)
 words [] = []
 words (b ∷ bs) = cond (b == 35) [] (cond (blank b) (words bs) (cond (goes_on bs) (grown b (words bs)) ((b ∷ []) ∷ words bs)))
 
--- a word in front of others, where it is one
-abbrev pub put : List ℕ → List (List ℕ) → List (List ℕ)
-put [] ws = []
-put (b ∷ w) ws = (b ∷ w) ∷ ws
-
--- a line longer by a byte in front
-abbrev pub grown_line : ℕ → List (List ℕ) → List (List ℕ)
-grown_line b [] = (b ∷ []) ∷ []
-grown_line b (l ∷ ls) = (b ∷ l) ∷ ls
+-- the words that are left
+abbrev pub left : Words → List (List ℕ)
+left w = words w.rest.now
 
 -- the lines of a text: what stands between its line feeds
-unfoldable pub lines : List ℕ → List (List ℕ)
-lines [] = [] ∷ []
-lines (b ∷ bs) = cond (b == 10) ([] ∷ lines bs) (grown_line b (lines bs))
+abbrev pub lines : List ℕ → List (List ℕ)
+lines bs = slice_split (λ b. b == 10) bs
 
 -- digits from the left, after the number so far
 abbrev pub read_on : ℕ → List ℕ → ℕ
@@ -52,7 +47,3 @@ plain ds = all_ascii_digits ds && (nat_lt 0 (length ds) && (length ds == 1 || no
 -- the number of 64 bits that a word is
 abbrev pub numeral : List ℕ → Option ℕ
 numeral ds = cond (plain ds && nat_lt (read_on 0 ds) (2 ^ 64)) (Some (read_on 0 ds)) None
-
--- the number of 64 bits that digits write after the number so far
-abbrev pub onward : ℕ → List ℕ → Option ℕ
-onward n ds = cond (all_ascii_digits ds && nat_lt (read_on n ds) (2 ^ 64)) (Some (read_on n ds)) None

@@ -1,6 +1,7 @@
 // Scripts that say what a swarm goes through: the reader.
 #![tactic(auto)]
 
+mod draft;
 mod links;
 mod message;
 mod number;

@@ -1,105 +1,94 @@
-// The parts of a statement, each taken from the front of what is left of a line.
-ghost use Rattle.std.specs.Prelude.{◌≡◌, ℕ, ◌<◌, List, length, Ok, Err, MatchResult};
-ghost use Rattle.script.specs.Statements.{Read, is, number, keyword, ended, pair, delay};
-ghost use Rattle.script.specs.Words.{words};
+// The parts of a statement, each taken from the front of the words that are left of a line.
+ghost use Rattle.std.specs.Prelude.{◌≡◌, Ok, Err, MatchResult};
+ghost use Rattle.script.specs.Statements.{Takes, number, keyword, ended, pair, delay};
+ghost use Rattle.script.specs.Words.{left};
+ghost use Rattle.script.specs.declared.parts.Pair.{Pair};
+ghost use Rattle.script.specs.declared.statement.Statement.{Statement};
 
 use crate::number::number;
-use crate::statement::{Expected, Statement};
-use crate::words::next_word;
+use crate::statement::Expected;
+use crate::words::Words;
 
-// Two peers, a tick, and what follows them.
-pub(crate) struct Pair<'a> {
+// A number that is wanted: its bounds, and what is said where it isn't one.
+#[derive(Clone, Copy)]
+pub(crate) struct Wanted {
+    pub(crate) low: u64,
+    pub(crate) high: u64,
+    pub(crate) expected: Expected,
+}
+
+// Two peers, and a tick.
+pub(crate) struct Pair {
     pub(crate) a: u64,
     pub(crate) b: u64,
     pub(crate) at: u64,
-    pub(crate) rest: &'a [u8],
 }
 
-// Are they the same word?
-pub(crate) fn same(word: &[u8], other: &[u8]) -> bool
-    ensures { result ≡ is word.now other.now }
-{
-    word == other
-}
+// A peer's number.
+pub(crate) const PEER: Wanted = Wanted {
+    low: 1,
+    high: u64::MAX,
+    expected: Expected::PeerNumber,
+};
 
-// A number from `low` to `high`, and what follows it.
-pub(crate) fn take_number(
-    line: &[u8],
-    low: u64,
-    high: u64,
-    expected: Expected,
-) -> Result<(u64, &[u8]), Expected>
-    ensures { (next : ℕ → List (List ℕ) → Read) → MatchResult result (λ x. number low high expected (words line.now) next ≡ next x.0 (words x.1.now)) (λ e. number low high expected (words line.now) next ≡ Err e) }
-{
-    let (word, rest) = next_word(line);
-    match number(word) {
-        Some(n) if low <= n && n <= high => Ok((n, rest)),
-        _ => Err(expected),
+impl<'a> Words<'a> {
+    // A number that is wanted.
+    pub(crate) fn number(&mut self, wanted: Wanted) -> Result<u64, Expected>
+        ensures { Takes (number wanted.low wanted.high wanted.expected (left self.old)) (left self.new) result }
+    {
+        match self.next().and_then(number) {
+            Some(n) if (wanted.low..=wanted.high).contains(&n) => Ok(n),
+            _ => Err(wanted.expected),
+        }
     }
-}
 
-// What follows the word that is wanted.
-pub(crate) fn take_keyword<'a>(
-    line: &'a [u8],
-    wanted: &[u8],
-    expected: Expected,
-) -> Result<&'a [u8], Expected>
-    requires { 0 < length wanted.now }
-    ensures { (next : List (List ℕ) → Read) → MatchResult result (λ rest. keyword wanted.now expected (words line.now) next ≡ next (words rest.now)) (λ e. keyword wanted.now expected (words line.now) next ≡ Err e) }
-{
-    let (word, rest) = next_word(line);
-    if same(word, wanted) {
-        Ok(rest)
-    } else {
-        Err(expected)
+    // The word that is wanted.
+    fn keyword(&mut self, wanted: &[u8], expected: Expected) -> Result<(), Expected>
+        ensures { Takes (λ next. keyword wanted.now expected (left self.old) (next tt)) (left self.new) result }
+    {
+        match self.next() {
+            Some(word) if word == wanted => Ok(()),
+            _ => Err(expected),
+        }
     }
-}
 
-// Nothing more stands in the line.
-pub(crate) fn take_end(line: &[u8]) -> Result<(), Expected>
-    ensures { (s : Statement) → MatchResult result (λ _. ended s (words line.now) ≡ Ok s) (λ e. ended s (words line.now) ≡ Err e) }
-{
-    let (word, _) = next_word(line);
-    if word.is_empty() {
-        Ok(())
-    } else {
-        Err(Expected::LineEnd)
+    // Two peers' numbers, the word `at` and a tick.
+    pub(crate) fn pair(&mut self) -> Result<Pair, Expected>
+        ensures { Takes (λ next. pair (left self.old) (λ a b t ws. next (record { a = a; b = b; at = t }) ws)) (left self.new) result }
+    {
+        let a = self.number(PEER)?;
+        let b = self.number(PEER)?;
+        self.keyword(b"at", Expected::At)?;
+        let at = self.number(Wanted {
+            low: 0,
+            high: u64::MAX,
+            expected: Expected::Tick,
+        })?;
+        Ok(Pair { a, b, at })
     }
-}
 
-// A number from `low` to `high` with which the line ends.
-pub(crate) fn take_last(
-    line: &[u8],
-    low: u64,
-    high: u64,
-    expected: Expected,
-) -> Result<u64, Expected>
-    ensures { (made : ℕ → Statement) → MatchResult result (λ n. number low high expected (words line.now) (λ n ws. ended (made n) ws) ≡ Ok (made n)) (λ e. number low high expected (words line.now) (λ n ws. ended (made n) ws) ≡ Err e) }
-{
-    let (n, rest) = take_number(line, low, high, expected)?;
-    take_end(rest)?;
-    Ok(n)
-}
-
-// Two peers' numbers, the word `at` and a tick, and what follows them.
-pub(crate) fn take_pair(line: &[u8]) -> Result<Pair<'_>, Expected>
-    ensures { (next : ℕ → ℕ → ℕ → List (List ℕ) → Read) → MatchResult result (λ p. pair (words line.now) next ≡ next p.a p.b p.at (words p.rest.now)) (λ e. pair (words line.now) next ≡ Err e) }
-{
-    let (a, rest) = take_number(line, 1, u64::MAX, Expected::PeerNumber)?;
-    let (b, rest) = take_number(rest, 1, u64::MAX, Expected::PeerNumber)?;
-    let rest = take_keyword(rest, b"at", Expected::At)?;
-    let (at, rest) = take_number(rest, 0, u64::MAX, Expected::Tick)?;
-    Ok(Pair { a, b, at, rest })
-}
-
-// A delay from 1 to 8 ticks, 1 where the line ends, and what follows it.
-pub(crate) fn take_delay(line: &[u8]) -> Result<(u64, &[u8]), Expected>
-    ensures { (next : ℕ → List (List ℕ) → Read) → MatchResult result (λ x. delay (words line.now) next ≡ next x.0 (words x.1.now)) (λ e. delay (words line.now) next ≡ Err e) }
-{
-    let (word, _) = next_word(line);
-    if word.is_empty() {
-        return Ok((1, line));
+    // A delay from 1 to 8 ticks, 1 where the line ends.
+    pub(crate) fn delay(&mut self) -> Result<u64, Expected>
+        ensures { Takes (delay (left self.old)) (left self.new) result }
+    {
+        match self.next() {
+            None => Ok(1),
+            Some(word) if word == b"delay".as_slice() => self.number(Wanted {
+                low: 1,
+                high: 8,
+                expected: Expected::DelayTicks,
+            }),
+            Some(_) => Err(Expected::Delay),
+        }
     }
-    let rest = take_keyword(line, b"delay", Expected::Delay)?;
-    take_number(rest, 1, 8, Expected::DelayTicks)
+
+    // Nothing more stands in the line.
+    pub(crate) fn end(&mut self) -> Result<(), Expected>
+        ensures { (s : Statement) → MatchResult result (λ _. ended s (left self.old) ≡ Ok s) (λ e. ended s (left self.old) ≡ Err e) }
+    {
+        match self.next() {
+            None => Ok(()),
+            Some(_) => Err(Expected::LineEnd),
+        }
+    }
 }

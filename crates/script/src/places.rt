@@ -1,54 +1,24 @@
 // Where peers and events stand in a script.
-ghost use Rattle.std.specs.Prelude.{◌≡◌, ℕ, ◌≤◌, length};
+ghost use Rattle.std.specs.Prelude.{◌≡◌, ◌<◌, ◌≤◌, is_ok, AllPairs, IfErr, length};
 ghost use Rattle.script.specs.Sheets.{known, place, number_of, tick_of};
 
 use crate::sheet::{Event, Peer};
 
-// What stands in an order, by a key.
-pub(crate) trait Keyed {
-    ghost key: { Self → ℕ };
-
-    fn key(&self) -> u64
-        ensures { result ≡ key self.now };
-}
-
-impl Keyed for Peer {
-    ghost key = { number_of };
-
-    fn key(&self) -> u64 {
-        self.id
-    }
-}
-
-impl Keyed for Event {
-    ghost key = { tick_of };
-
-    fn key(&self) -> u64 {
-        self.at
-    }
-}
-
-// Is a peer of that number there?
-pub(crate) fn is_known(peers: &[Peer], id: u64) -> bool
-    ensures { result ≡ known id peers.now }
+// At which place the peer of that number stands, or else would stand.
+pub(crate) fn find_peer(peers: &[Peer], id: u64) -> Result<usize, usize>
+    requires { AllPairs (λ p q. number_of p < number_of q) peers.now }
+    ensures known { is_ok result ≡ known id peers.now }
+    ensures place { IfErr result (λ at. at ≡ place number_of id peers.now) }
+    ensures bound { IfErr result (λ at. at ≤ length peers.now) }
 {
-    for peer in peers {
-        if peer.id == id {
-            return true;
-        }
-    }
-    false
+    peers.binary_search_by_key(&id, |peer| peer.id)
 }
 
-// Before which item one of that key stands: the first of a greater key.
-pub(crate) fn place_of<T: Keyed>(items: &[T], new: u64) -> usize
-    ensures value { result ≡ place T.key new items.now }
-    ensures bound { result ≤ length items.now }
+// Before which event one of that tick stands: the first of a greater tick.
+pub(crate) fn place_of(events: &[Event], tick: u64) -> usize
+    requires { AllPairs (λ e f. tick_of e ≤ tick_of f) events.now }
+    ensures value { result ≡ place tick_of tick events.now }
+    ensures bound { result ≤ length events.now }
 {
-    for (i, item) in items.iter().enumerate() {
-        if new < item.key() {
-            return i;
-        }
-    }
-    items.len()
+    events.partition_point(|event| event.at <= tick)
 }

@@ -1,5 +1,10 @@
 // What a script says, read and checked: its peers by number, its links by tick, and how many rounds are played.
+ghost use Rattle.std.specs.Prelude.{◌≡◌};
+ghost use Rattle.script.specs.declared.sheet.BadLine.{BadLine};
+ghost use Rattle.script.specs.declared.sheet.ReadFault.TheVariants.{Line, OutOfMemory};
+
 use crate::statement::Expected;
+use std::alloc::AllocFailed;
 
 #[derive(Clone, Copy, PartialEq, Eq, Debug)]
 pub struct Peer {
@@ -8,6 +13,7 @@ pub struct Peer {
     pub honest: bool,
 }
 
+// What comes of a link: an `Option` of the ticks would hold as much, and not say which event it is.
 #[derive(Clone, Copy, PartialEq, Eq, Debug)]
 pub enum LinkEvent {
     // The link comes about, with so many ticks for each message.
@@ -32,21 +38,6 @@ pub struct Script {
     pub rounds: u64,
 }
 
-// A script as far as it is read.
-#[derive(Drop)]
-pub(crate) struct Draft {
-    pub(crate) peers: Vec<Peer>,
-    pub(crate) events: Vec<Event>,
-    pub(crate) rounds: Option<u64>,
-}
-
-// Why a script can't have one statement more.
-#[derive(Clone, Copy, PartialEq, Eq, Debug)]
-pub(crate) enum Refusal {
-    Bad(Expected),
-    NoMemory,
-}
-
 // A line that can't be, and what was expected there.
 #[derive(Clone, Copy, PartialEq, Eq, Debug)]
 pub struct BadLine {
@@ -59,4 +50,21 @@ pub struct BadLine {
 pub enum ReadFault {
     Line(BadLine),
     OutOfMemory,
+}
+
+impl ReadFault {
+    // A line is bad, for something else was expected there.
+    pub(crate) fn at(line: u64, expected: Expected) -> ReadFault
+        ensures { result ≡ Line (record { line = line; expected = expected }) }
+    {
+        ReadFault::Line(BadLine { line, expected })
+    }
+}
+
+impl<T: Drop> From<AllocFailed<T>> for ReadFault {
+    ghost from_gives = { λ _ fault. fault ≡ OutOfMemory };
+
+    fn from(_failed: AllocFailed<T>) -> ReadFault {
+        ReadFault::OutOfMemory
+    }
 }

@@ -1,11 +1,18 @@
 // The statements of a script, one a line.
-ghost use Rattle.std.specs.Prelude.{◌≡◌};
+ghost use Rattle.std.specs.Prelude.{◌≡◌, ◌∷◌, Err, MatchResult};
 ghost use Rattle.script.specs.Laws.{NumeralExact, WrittenRead, ReadWritten};
-ghost use Rattle.script.specs.Statements.{most_rounds, number, most, ended, pair, delay, later, statement};
-ghost use Rattle.script.specs.Words.{words};
+ghost use Rattle.script.specs.Statements.{ended, statement};
+ghost use Rattle.script.specs.Words.{left, words};
 
-use crate::parts::{Pair, same, take_delay, take_end, take_last, take_pair};
-use crate::words::next_word;
+use crate::parts::{PEER, Pair, Wanted};
+use crate::words::Words;
+
+// How many rounds a script may ask for.
+const ROUNDS: Wanted = Wanted {
+    low: 0,
+    high: 4294967295,
+    expected: Expected::Count,
+};
 
 #[derive(Clone, Copy, PartialEq, Eq, Debug)]
 pub enum Statement {
@@ -56,51 +63,37 @@ pub enum Expected {
     Rounds,
 }
 
-// An honest peer's number.
-fn peer(line: &[u8]) -> Result<Statement, Expected>
-    ensures { result ≡ number 1 most Expected.PeerNumber (words line.now) (λ n ws. ended (Statement.Peer n) ws) }
+// The statement of that name, of the words that follow it.
+fn named(name: &str, words: &mut Words) -> Result<Statement, Expected>
+    ensures { MatchResult result (λ s. statement (name.now ∷ left words.old) ≡ ended s (left words.new)) (λ e. statement (name.now ∷ left words.old) ≡ Err e) }
 {
-    Ok(Statement::Peer(take_last(line, 1, u64::MAX, Expected::PeerNumber)?))
+    match name {
+        "peer" => Ok(Statement::Peer(words.number(PEER)?)),
+        "false" => Ok(Statement::False(words.number(PEER)?)),
+        "link" => {
+            let Pair { a, b, at } = words.pair()?;
+            let delay = words.delay()?;
+            Ok(Statement::Link { a, b, at, delay })
+        }
+        "break" => {
+            let Pair { a, b, at } = words.pair()?;
+            Ok(Statement::Break { a, b, at })
+        }
+        "rounds" => Ok(Statement::Rounds(words.number(ROUNDS)?)),
+        "pieces" | "fall" | "disk" | "say" => Err(Expected::Played),
+        _ => Err(Expected::Statement),
+    }
 }
 
-// A false peer's number.
-fn false_peer(line: &[u8]) -> Result<Statement, Expected>
-    ensures { result ≡ number 1 most Expected.PeerNumber (words line.now) (λ n ws. ended (Statement.False n) ws) }
+// The statement that all words of a line are.
+fn stated(mut words: Words) -> Result<Statement, Expected>
+    ensures { result ≡ statement (left words.entry) }
 {
-    Ok(Statement::False(take_last(line, 1, u64::MAX, Expected::PeerNumber)?))
-}
-
-// Between whom a link comes about, when, and how long messages take.
-fn link(line: &[u8]) -> Result<Statement, Expected>
-    ensures { result ≡ pair (words line.now) (λ a b t ws. delay ws (λ d ws. ended (Statement.Link a b t d) ws)) }
-{
-    let Pair { a, b, at, rest } = take_pair(line)?;
-    let (delay, rest) = take_delay(rest)?;
-    take_end(rest)?;
-    Ok(Statement::Link { a, b, at, delay })
-}
-
-// Between whom a link breaks, and when.
-fn break_link(line: &[u8]) -> Result<Statement, Expected>
-    ensures { result ≡ pair (words line.now) (λ a b t ws. ended (Statement.Break a b t) ws) }
-{
-    let Pair { a, b, at, rest } = take_pair(line)?;
-    take_end(rest)?;
-    Ok(Statement::Break { a, b, at })
-}
-
-// How many rounds are played.
-fn rounds(line: &[u8]) -> Result<Statement, Expected>
-    ensures { result ≡ number 0 most_rounds Expected.Count (words line.now) (λ n ws. ended (Statement.Rounds n) ws) }
-{
-    Ok(Statement::Rounds(take_last(line, 0, 4294967295, Expected::Count)?))
-}
-
-// Is it the first word of a statement that is not played yet?
-fn is_later(name: &[u8]) -> bool
-    ensures { result ≡ later name.now }
-{
-    same(name, b"pieces") || same(name, b"fall") || same(name, b"disk") || same(name, b"say")
+    let name = words.next().ok_or(Expected::Statement)?;
+    let name = str::from_utf8(name).or(Err(Expected::Statement))?;
+    let statement = named(name, &mut words)?;
+    words.end()?;
+    Ok(statement)
 }
 
 // The statement that a line is, or what it should have been.
@@ -110,20 +103,5 @@ pub fn read_statement(line: &[u8]) -> Result<Statement, Expected>
     ensures written { WrittenRead }
     ensures only { ReadWritten }
 {
-    let (name, rest) = next_word(line);
-    if same(name, b"peer") {
-        peer(rest)
-    } else if same(name, b"false") {
-        false_peer(rest)
-    } else if same(name, b"link") {
-        link(rest)
-    } else if same(name, b"break") {
-        break_link(rest)
-    } else if same(name, b"rounds") {
-        rounds(rest)
-    } else if is_later(name) {
-        Err(Expected::Played)
-    } else {
-        Err(Expected::Statement)
-    }
+    stated(Words::of(line))
 }

@@ -1,14 +1,7 @@
--- What is left of the text makes of the script as it is now what all of it makes of an empty one, and wants memory only if all of it does.
-use Rattle.std.proofs.Common.{◌≡◌, true}
-use Rattle.script.proofs.Reading.{left, left_lines}
+-- The lines that are left make of the script as it is now what all lines make of an empty one.
+use Rattle.script.proofs.Reading.{Toward}
 use Rattle.script.proofs.reader.read.Given as goal
-use Rattle.script.specs.Sheets.{sheet, blank_sheet, with_lines, kept_lines}
-use Rattle.script.specs.Words.{lines}
+use Rattle.script.specs.Sheets.{sheet}
 
-abbrev pub invariant-loop-rest : goal.invariant-loop-rest
-invariant-loop-rest l =
-    (with_lines l.number (sheet l.draft) (left_lines l.rest) ≡ with_lines 0 blank_sheet (lines l.text)) ×
-    (kept_lines l.number (sheet l.draft) (left_lines l.rest) ≡ true → kept_lines 0 blank_sheet (lines l.text) ≡ true)
-
-abbrev pub decreases-loop-rest : goal.decreases-loop-rest
-decreases-loop-rest l = left l.rest
+abbrev pub invariant-loop-line : goal.invariant-loop-line
+invariant-loop-line l = Toward (goal.iterator-loop-line).next_gives l.line-iterator l.text l.number (sheet l.draft)
