@@ -10,7 +10,9 @@ use Rattle.store.specs.Records.{Recorded, all_zero, digests, is_path, read_recor
 use Rattle.store.specs.declared.flaw.Flaw.{Flaw}
 use Rattle.store.specs.declared.flaw.Flaw.TheVariants.{Size}
 use Rattle.wire.proofs.NumberBytes.{bytes-number, number-bytes}
+use Rattle.wire.proofs.Reading.{one_byte, whole_field}
 use Rattle.wire.specs.Bytes.{number_of, bytes_of}
+use Rattle.wire.specs.Formats.{IsField}
 
 -- zeros are all 0
 zeros_zero : (n : ℕ) → all_zero (replicate n 0) ≡ true
@@ -48,6 +50,13 @@ fields_of p d n rest bs e lp ld l =
     let count : get_or bs 36 0 ≡ n = rw (front, get_or_at (p ++ d) n rest 0 36 (simp length-append (omega arith))) in
     let after : drop 37 bs ≡ rest = rw (whole, drop_at ((p ++ d) ++ (n ∷ [])) rest 37 (simp length-append (omega arith))) in
     cond-true _ _ _ (eq-eqb _ 1024 l) ∙ rw (number, digest, count, after)
+
+-- a block whose fields were read one after the other is read as them
+pub fields_in : (bs p r0 d r1 c rest : List ℕ) → IsField 4 bs p r0 → IsField 32 r0 d r1 → IsField 1 r1 c rest → length bs ≡ 1024 → read_record bs ≡ record_of (number_of p) d (get_or c 0 0) rest
+fields_in bs p r0 d r1 c rest hp hd hc l =
+    let back : get_or c 0 0 ∷ rest ≡ r1 = ap (λ n. n ++ rest) (one_byte c hc.1) ∙ whole_field 1 r1 c rest hc in
+    let whole : p ++ (d ++ (get_or c 0 0 ∷ rest)) ≡ bs = rw (back, whole_field 32 r0 d r1 hd) (whole_field 4 bs p r0 hp) in
+    fields_of p d (get_or c 0 0) rest bs (sym whole) hp.1 hd.1 l
 
 -- the block of a record has 1,024 bytes
 sized : (r : Recorded) → IsRecord r → length (record_bytes r) ≡ 1024

@@ -1,7 +1,10 @@
 -- The record of a piece as a block of 1,024 bytes, and what any byte string is read as. Assumes nothing.
-use Rattle.std.specs.Prelude.{ℕ, ◌-◌, ◌*◌, ◌/◌, ◌%◌, Bool, true, cond, ◌&&◌, List, [], ◌∷◌, ◌++◌, length, take, drop, replicate, Ok, Err, Result, ◌==◌, nat_le, slice_index}
+use Rattle.std.specs.Prelude.{ℕ, ◌-◌, ◌*◌, ◌/◌, ◌%◌, Bool, cond, ◌&&◌, List, ◌∷◌, ◌++◌, length, take, drop, replicate, Ok, Err, Result, ◌==◌, nat_le, slice_index}
+use Rattle.std.specs.List.{list_all}
 use Rattle.store.specs.declared.flaw.Flaw.{Flaw}
 use Rattle.store.specs.declared.flaw.Flaw.TheVariants.{Size, Count, Rest}
+use Rattle.store.specs.declared.flaw.Unfit.{Unfit}
+use Rattle.store.specs.declared.flaw.Unfit.TheVariants.{Block, Path}
 use Rattle.store.specs.declared.records.Record.{Record}
 use Rattle.wire.specs.Bytes.{number_of, bytes_of}
 
@@ -30,14 +33,17 @@ record_bytes r = bytes_of 4 r.piece ++ (r.digest ++ (digests r.path ∷ (r.path 
 abbrev pub fits : Recorded → List ℕ → Bool
 fits r block = length block == 1024 && is_path r.path
 
+-- why it isn't written, and first of the block
+abbrev pub refusal : List ℕ → Unfit
+refusal block = cond (length block == 1024) Path Block
+
 -- what the block is then: the record, or as it was
 abbrev pub written : Recorded → List ℕ → List ℕ
 written r block = cond (fits r block) (record_bytes r) block
 
 -- is each byte 0
 abbrev pub all_zero : List ℕ → Bool
-all_zero [] = true
-all_zero (b ∷ bs) = b == 0 && all_zero bs
+all_zero bs = list_all (λ b. b == 0) bs
 
 -- what is read of the fields of a block: first the count is looked at, then what follows the path
 abbrev pub record_of : (piece : ℕ) (digest : List ℕ) (count : ℕ) (rest : List ℕ) → Result Recorded Flaw

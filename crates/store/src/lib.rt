@@ -3,7 +3,6 @@
 
 mod flaw;
 mod records;
-mod zeros;
 
-pub use flaw::Flaw;
+pub use flaw::{Flaw, Unfit};
 pub use records::{Record, read_record, write_record};

@@ -1,27 +1,58 @@
 // The record of a piece, and its block of bytes.
-ghost use Rattle.std.specs.Prelude.{◌≡◌, Ok, Err, MatchResult};
+ghost use Rattle.std.specs.Prelude.{◌≡◌, ◌≤◌, length, is_ok, IfErr, Ok, Err, MatchResult};
 ghost use Rattle.store.specs.Laws.{IsRecord};
-ghost use Rattle.store.specs.Records.{said, fits, read_record, record_bytes, written};
+ghost use Rattle.store.specs.Records.{all_zero, said, fits, read_record, record_of, refusal, record_bytes, written};
+ghost use Rattle.wire.specs.Bytes.{number_of};
 ghost use Rattle.wire.specs.Laws.{ReadsWritten, WritesRead};
 
-use crate::flaw::Flaw;
-use crate::zeros::all_zero;
+use crate::flaw::{Flaw, Unfit};
+use wire::{read_field, write_field};
 
 // How many bytes a block has.
 const SIZE: usize = 1024;
-
-// Where the path begins, after the number, the digest and the count.
-const PATH: usize = 37;
 
 // How many digests a path has at most.
 const MOST: usize = 16;
 
 // A piece's number, its digest, and the digests of its path, one after the other.
+// The path is bytes and no list of digests, as a part of a block is lent and nothing copied.
 #[derive(Clone, Copy)]
 pub struct Record<'a> {
     pub piece: u32,
     pub digest: [u8; 32],
     pub path: &'a [u8],
+}
+
+// Is each of these bytes 0?
+fn all_zero(bytes: &[u8]) -> bool
+    ensures { result ≡ all_zero bytes.now }
+{
+    bytes.iter().all(|byte| *byte == 0)
+}
+
+// The record of which these are the fields, or what is wrong with them.
+fn record_of<'a>(
+    piece: &[u8; 4],
+    digest: &[u8; 32],
+    count: u8,
+    rest: &'a [u8],
+) -> Result<Record<'a>, Flaw>
+    requires { 512 ≤ length rest.now }
+    ensures { MatchResult result (λ x. record_of (number_of piece.now) digest.now count rest.now ≡ Ok (said x)) (λ e. record_of (number_of piece.now) digest.now count rest.now ≡ Err e) }
+{
+    let count = usize::from(count);
+    if count > MOST {
+        return Err(Flaw::Count);
+    }
+    let (path, zeros) = rest.split_at(32 * count);
+    if !all_zero(zeros) {
+        return Err(Flaw::Rest);
+    }
+    Ok(Record {
+        piece: u32::from_be_bytes(*piece),
+        digest: *digest,
+        path,
+    })
 }
 
 // The record that this block is, its path a part of it, or what is wrong with the block.
@@ -33,38 +64,33 @@ pub fn read_record(block: &[u8]) -> Result<Record<'_>, Flaw>
     if block.len() != SIZE {
         return Err(Flaw::Size);
     }
-    let count = usize::from(block[36]);
-    if count > MOST {
-        return Err(Flaw::Count);
-    }
-    let end = PATH + 32 * count;
-    if !all_zero(&block[end..]) {
-        return Err(Flaw::Rest);
-    }
-    let mut digest = [0; 32];
-    digest.copy_from_slice(&block[4..36]);
-    Ok(Record {
-        piece: u32::from_be_bytes([block[0], block[1], block[2], block[3]]),
-        digest,
-        path: &block[PATH..end],
-    })
+    let (piece, rest) = read_field(block)?;
+    let (digest, rest) = read_field(rest)?;
+    let ([count], rest) = read_field::<1>(rest)?;
+    record_of(piece, digest, *count, rest)
 }
 
-// Writes the record over all of the block; writes nothing and says no where the block isn't 1,024 bytes or
-// the path isn't a whole number of digests, at most 16.
-pub fn write_record(r: &Record, block: &mut [u8]) -> bool
-    ensures answer { result ≡ fits (said r.now) block.old }
+// Writes the record over all of the block; writes nothing where the block isn't 1,024 bytes or the path
+// isn't a whole number of digests, at most 16.
+pub fn write_record(r: &Record, block: &mut [u8]) -> Result<(), Unfit>
+    ensures answer { is_ok result ≡ fits (said r.now) block.old }
+    ensures refused { IfErr result (λ e. e ≡ refusal block.old) }
     ensures bytes { block.new ≡ written (said r.now) block.old }
 {
-    let size = r.path.len();
-    if block.len() != SIZE || size % 32 != 0 || size / 32 > MOST {
-        return false;
+    if block.len() != SIZE {
+        return Err(Unfit::Block);
     }
-    let end = PATH + size;
-    block[0..4].copy_from_slice(&r.piece.to_be_bytes());
-    block[4..36].copy_from_slice(&r.digest);
-    block[36] = (size / 32) as u8;
-    block[PATH..end].copy_from_slice(r.path);
-    block[end..].fill(0);
-    true
+    let (digests, []) = r.path.as_chunks::<32>() else {
+        return Err(Unfit::Path);
+    };
+    if digests.len() > MOST {
+        return Err(Unfit::Path);
+    }
+    let count = digests.len() as u8;
+    let place = write_field(block, 0, &r.piece.to_be_bytes());
+    let place = write_field(block, place, &r.digest);
+    let place = write_field(block, place, &[count]);
+    let place = write_field(block, place, r.path);
+    block[place..].fill(0);
+    Ok(())
 }

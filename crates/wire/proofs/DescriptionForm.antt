@@ -1,12 +1,12 @@
 -- A description has one form in bytes.
 use Rattle.std.proofs.Common.{◌≡◌, ℕ, ◌^◌, ◌<◌, true, cond, eqb, leb, List, [], ◌∷◌, ◌++◌, length, take, drop, Ok, Err, Result, sym, refl, ap, ◌∙◌, zero-add, arith}
 use Rattle.merkle.specs.Lengths.{is_length}
-use Rattle.std.proofs.lemmas.Bool.{and_from, and_parts, eq-eqb, le-leb}
+use Rattle.std.proofs.lemmas.Bool.{and_from, and_parts, cond-true, eq-eqb, le-leb}
 use Rattle.std.specs.Int.Digits.{AllBelowBase}
-use Rattle.wire.proofs.Fields.{field_of, field_read}
+use Rattle.wire.proofs.Reading.{byte_number, field_of, field_read, front_field, one_byte}
 use Rattle.wire.proofs.NumberBytes.{bytes-number, number-bytes}
 use Rattle.wire.specs.Bytes.{number_of, bytes_of}
-use Rattle.wire.specs.Formats.{Described, field, read_description, read_numbers, description_bytes, description_of}
+use Rattle.wire.specs.Formats.{Described, IsField, field, read_description, read_numbers, description_bytes, description_of}
 use Rattle.wire.specs.declared.damage.Damage.{Damage}
 use Rattle.wire.specs.declared.damage.Damage.TheVariants.{Kind}
 use Rattle.wire.specs.Laws.{IsDescription, ReadsWritten, WritesRead}
@@ -21,20 +21,23 @@ fields_read d h =
     let can = and_parts _ _ h.0 in
     rw (number-bytes 8 d.len (small d.len can.0), can.0, zero-add, eq-eqb (length d.name) (length d.name) refl)
 
+-- a description is read of its fields, after a 1
+pub fields_of : (bs kind r0 len r1 root r2 size name : List ℕ) → IsField 1 bs kind r0 → number_of kind ≡ 1 → IsField 8 r0 len r1 → IsField 32 r1 root r2 → IsField 1 r2 size name →
+    read_description bs ≡ description_of len root size name
+fields_of bs kind r0 len r1 root r2 size name k one l r s =
+    field_of 1 bs kind r0 (λ kind rest. cond (eqb (number_of kind) 1) (read_numbers rest) (Err Kind)) k ∙ cond-true _ _ _ (eq-eqb _ 1 one)
+    ∙ field_of 8 r0 len r1 (λ len rest. field 32 rest (λ root rest. field 1 rest (λ size name. description_of len root size name))) l
+    ∙ field_of 32 r1 root r2 (λ root rest. field 1 rest (λ size name. description_of len root size name)) r
+    ∙ field_of 1 r2 size name (λ size name. description_of len root size name) s
+
 -- a description that is written is read back
 pub description_read : ReadsWritten IsDescription description_bytes read_description
 description_read d h =
     let len = bytes_of 8 d.len in
     let size : List ℕ = length d.name ∷ [] in
-    field_of 1 (1 ∷ []) (len ++ (d.root ++ (size ++ d.name))) (λ kind rest. cond (eqb (number_of kind) 1) (read_numbers rest) (Err Kind)) refl
-    ∙ field_of 8 len (d.root ++ (size ++ d.name)) (λ len rest. field 32 rest (λ root rest. field 1 rest (λ size name. description_of len root size name))) refl
-    ∙ field_of 32 d.root (size ++ d.name) (λ root rest. field 1 rest (λ size name. description_of len root size name)) h.1
-    ∙ field_of 1 size d.name (λ size name. description_of len d.root size name) refl ∙ fields_read d h
-
-one_byte : (bs : List ℕ) → length bs ≡ 1 → number_of bs ∷ [] ≡ bs
-one_byte [] h = absurd (omega arith)
-one_byte (b ∷ []) h = simp zero-add
-one_byte (b ∷ c ∷ bs) h = absurd (omega arith)
+    fields_of (description_bytes d) (1 ∷ []) (len ++ (d.root ++ (size ++ d.name))) len (d.root ++ (size ++ d.name)) d.root (size ++ d.name) size d.name
+    (front_field 1 (1 ∷ []) _ refl) refl (front_field 8 len _ refl) (front_field 32 d.root _ h.1) (front_field 1 size d.name refl)
+    ∙ fields_read d h
 
 -- the fields of which a description is made
 fields_form : (len root size name : List ℕ) (d : Described) → description_of len root size name ≡ Ok d →
@@ -48,7 +51,7 @@ fields_written len root size name d ll lr ls ul us e =
     let made = fields_form len root size name d e in
     let small = (bytes-number 1 size ls us).1 in
     let el : bytes_of 8 d.len ≡ len = ap (bytes_of 8) (sym made.1) ∙ (bytes-number 8 len ll ul).0 in
-    let es : length name ∷ [] ≡ size = ap (λ n. n ∷ []) (sym made.3) ∙ one_byte size ls in
+    let es : length name ∷ [] ≡ size = ap (λ n. n ∷ []) (sym made.3 ∙ byte_number size ls) ∙ one_byte size ls in
     let short : leb (length d.name) 255 ≡ true = rw (← made.4) (le-leb (length name) 255 (omega arith)) in
     ((and_from _ _ made.0 short, ap length (sym made.2) ∙ lr), rw (← el, ← es, made.2, made.4))
 
@@ -74,5 +77,5 @@ description_written bs d u e =
     let kind = field_read 1 bs (λ kind rest. cond (eqb (number_of kind) 1) (read_numbers rest) (Err Kind)) d u e in
     let read = kind_read (number_of (take 1 bs)) (read_numbers (drop 1 bs)) d kind.1 in
     let w = numbers_written (drop 1 bs) d kind.0.back read.1 in
-    let one : 1 ∷ [] ≡ take 1 bs = ap (λ n. n ∷ []) (sym read.0) ∙ one_byte (take 1 bs) kind.0.sized in
+    let one : 1 ∷ [] ≡ take 1 bs = ap (λ n. n ∷ []) (sym read.0 ∙ byte_number (take 1 bs) kind.0.sized) ∙ one_byte (take 1 bs) kind.0.sized in
     (w.0, w.1 ∙ ap (λ xs. xs ++ drop 1 bs) one ∙ kind.0.whole)

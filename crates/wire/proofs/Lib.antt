@@ -1,6 +1,6 @@
 pub mod DescriptionForm
-pub mod Fields
 pub mod NumberBytes
+pub mod Reading
 pub mod SettingsForm
 pub mod Sums
 pub mod Writing

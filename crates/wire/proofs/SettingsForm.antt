@@ -2,7 +2,7 @@
 use Rattle.std.proofs.Common.{◌≡◌, ℕ, List, ◌++◌, length, take, drop, Ok, sym, ap, ◌∙◌, arith}
 use Rattle.std.proofs.lemmas.List.{nil_from_length}
 use Rattle.std.specs.Int.Digits.{AllBelowBase}
-use Rattle.wire.proofs.Fields.{field_read}
+use Rattle.wire.proofs.Reading.{field_read}
 use Rattle.wire.proofs.NumberBytes.{bytes-number, number-bytes}
 use Rattle.wire.specs.Bytes.{number_of, bytes_of}
 use Rattle.wire.specs.Formats.{field, read_settings, settings_bytes, settings_of}

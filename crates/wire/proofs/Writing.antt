@@ -1,27 +1,21 @@
 -- Fields that are written one after the other to the front of a byte string.
-use Rattle.std.proofs.Common.{◌≡◌, ℕ, ◌+◌, ◌-◌, ◌<◌, ◌≤◌, List, [], ◌∷◌, ◌++◌, length, drop, set, refl, ◌∙◌, arith}
-use borrow.Rule.Slice.PartMut.{put_mid}
-use Rattle.std.proofs.lemmas.List.{append_assoc, drop_at, drop-drop, drop_more, length-append, set_at, take_at}
+use Rattle.std.proofs.Common.{◌≡◌, ℕ, ◌+◌, List, [], ◌++◌, length, drop, refl, ◌∙◌, sym}
+use Rattle.std.proofs.lemmas.List.{append_assoc, drop_at, drop-drop, length-append, take_at}
+use Rattle.wire.specs.Formats.{with_field}
 
--- a byte after what was written of the first a bytes
-pub put_byte : (out z xs : List ℕ) (a b : ℕ) → z ≡ xs ++ drop a out → length xs ≡ a → a < length out → set z a b ≡ (xs ++ (b ∷ [])) ++ drop (a + 1) out
-put_byte out z xs a b e l h = rw (e, drop_more out a 0 h, set_at xs _ _ b a l, append_assoc)
+-- bytes with some written to their front, and the place behind those
+pub record Front (out xs z : List ℕ) (p : ℕ) : Type 0 where
+  pub bytes : z ≡ xs ++ drop (length xs) out
+  pub place : p ≡ length xs
 
--- a part of k bytes after them
-pub put_part : (out z xs ys : List ℕ) (a k : ℕ) → z ≡ xs ++ drop a out → length xs ≡ a → put_mid a k z ys ≡ (xs ++ ys) ++ drop (a + k) out
-put_part out z xs ys a k e l = rw (e, take_at xs _ a l, drop_at xs _ a l, drop-drop, append_assoc)
+pub nothing : (out : List ℕ) → Front out [] out 0
+nothing out = record { bytes = refl; place = refl }
 
-regroup : (n : ℕ) (ls rs ns : List ℕ) → ((ls ++ rs) ++ (n ∷ [])) ++ ns ≡ ls ++ (rs ++ (n ∷ ns))
-regroup n ls rs ns = append_assoc (ls ++ rs) (n ∷ []) ns ∙ append_assoc ls rs (n ∷ ns)
-
--- the fields of a description, and what stays behind them
-pub put_all : (out ls rs ns : List ℕ) → length ls ≡ 8 → length rs ≡ 32 → 42 + length ns ≤ length out →
-    put_mid 42 (42 + length ns - 42) (set (put_mid 9 32 (put_mid 1 8 (set out 0 1) ls) rs) 41 (length ns)) ns ≡ (1 ∷ (ls ++ (rs ++ (length ns ∷ ns)))) ++ drop (42 + length ns) out
-put_all out ls rs ns l r h =
-    let kind = put_byte out out [] 0 1 refl refl (omega arith) in
-    let len = put_part out _ (1 ∷ []) ls 1 8 kind refl in
-    let root = put_part out _ (1 ∷ ls) rs 9 32 len (omega arith) in
-    let size = put_byte out _ (1 ∷ (ls ++ rs)) 41 (length ns) root (simp length-append (omega arith)) (omega arith) in
-    let name = put_part out _ ((1 ∷ (ls ++ rs)) ++ (length ns ∷ [])) ns 42 (42 + length ns - 42) size (simp length-append (omega arith)) in
-    let sized : 42 + (42 + length ns - 42) ≡ 42 + length ns = omega arith in
-    name ∙ rw (sized, regroup (length ns) ls rs ns)
+-- a field behind what was written
+pub next : {out xs z w : List ℕ} {p q : ℕ} (ys : List ℕ) → Front out xs z p → w ≡ with_field p ys z → q ≡ p + length ys → Front out (xs ++ ys) w q
+next {out} {xs} {z} {w} {p} {q} ys f h e =
+    let l : length xs ≡ p = sym f.place in
+    record {
+      bytes = h ∙ rw (f.bytes, f.place, take_at xs _ (length xs) refl, ← drop-drop (length ys) (length xs) (xs ++ drop (length xs) out), drop_at xs _ (length xs) refl, drop-drop, append_assoc, length-append);
+      place = e ∙ rw (f.place, length-append);
+    }

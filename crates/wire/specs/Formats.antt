@@ -1,5 +1,5 @@
 -- Descriptions and settings as bytes, and what any byte string is read as. Assumes nothing.
-use Rattle.std.specs.Prelude.{ℕ, ◌+◌, Bool, cond, ◌&&◌, List, ◌∷◌, ◌++◌, length, take, drop, Ok, Err, Result, ◌==◌, nat_le, nat_lt}
+use Rattle.std.specs.Prelude.{◌≡◌, ℕ, ◌+◌, ◌≤◌, Bool, cond, ◌&&◌, List, ◌∷◌, ◌++◌, length, take, drop, Ok, Err, Result, ◌==◌, nat_le, nat_lt}
 use Rattle.merkle.specs.Lengths.{is_length}
 use Rattle.wire.specs.Bytes.{number_of, bytes_of}
 use Rattle.wire.specs.declared.damage.Damage.{Damage}
@@ -10,6 +10,14 @@ use Rattle.wire.specs.declared.settings.Settings.{Settings}
 -- the next field, of n bytes, and what is made of it and of what follows it
 abbrev pub field : {X : Type 0} → ℕ → List ℕ → (List ℕ → List ℕ → Result X Damage) → Result X Damage
 field n bs next = cond (nat_lt (length bs) n) (Err Short) (next (take n bs) (drop n bs))
+
+-- bytes begin with a field of n bytes, and this is what follows it
+abbrev pub IsField : ℕ → List ℕ → List ℕ → List ℕ → Type 0
+IsField n bs x rest = (n ≤ length bs) × (length x ≡ n) × (x ≡ take n bs) × (rest ≡ drop n bs) × (length rest + n ≡ length bs)
+
+-- bytes with those of a field at a place, and all others as they were
+abbrev pub with_field : ℕ → List ℕ → List ℕ → List ℕ
+with_field at xs bs = take at bs ++ (xs ++ drop (at + length xs) bs)
 
 -- what a description says: how long the file is, the root of its tree, and its name
 pub record Described : Type 0 where

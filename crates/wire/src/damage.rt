@@ -1,7 +1,11 @@
 // What is wrong with bytes that are no description or no settings.
-ghost use Rattle.std.specs.Prelude.{◌≡◌};
+ghost use Rattle.std.specs.Prelude.{◌≡◌, Some};
 ghost use Rattle.swarm.specs.Faults.{number};
+ghost use Rattle.swarm.specs.declared.fault.Fault.TheVariants.{BadSettings};
+ghost use Rattle.wire.specs.Words.{damage_words};
 
+use std::error::Error;
+use std::fmt;
 use swarm::Fault;
 
 #[derive(Clone, Copy, PartialEq, Eq, Debug)]
@@ -25,6 +29,32 @@ impl Damage {
     pub fn fault(self) -> Fault
         ensures { (result ≡ Fault.BadSettings) × (number result ≡ 11) }
     {
+        self.into()
+    }
+}
+
+impl From<Damage> for Fault {
+    ghost from_gives = { λ _ f. f ≡ BadSettings };
+
+    fn from(_damage: Damage) -> Fault {
         Fault::BadSettings
     }
 }
+
+impl fmt::Display for Damage {
+    ghost output = { λ d. Some (damage_words d) };
+
+    fn fmt<W: fmt::Write>(&self, f: &mut fmt::Formatter<W>) -> fmt::Result {
+        let reason = match self {
+            Damage::Short => "it is cut off",
+            Damage::Kind => "it doesn't begin with 1",
+            Damage::Length => "its length is not 1 to 1073741824",
+            Damage::Name => "its name has another length than it says",
+            Damage::Round => "its round is not 64 ticks",
+            Damage::Long => "it goes on after its end",
+        };
+        write!(f, "no description (fault 11): {reason}")
+    }
+}
+
+impl Error for Damage {}

@@ -2,13 +2,19 @@
 ghost use Rattle.std.specs.Prelude.{◌≡◌, true, is_ok, IfOk, if◌then◌else◌, Some, None, Ok, Err, MatchResult};
 ghost use Rattle.merkle.specs.Lengths.{is_length};
 ghost use Rattle.swarm.specs.Faults.{number};
-ghost use Rattle.wire.specs.Formats.{said, fits, description_bytes, description_size, written, read_description};
+ghost use Rattle.wire.specs.Formats.{said, fits, description_bytes, description_of, description_size, written, read_description};
 ghost use Rattle.wire.specs.Laws.{IsDescription, ReadsWritten, WritesRead};
 
-use crate::big_endian::{bytes8, number8};
 use crate::damage::Damage;
+use crate::fields::{read_field, write_field};
 use merkle::Numbers;
 use swarm::Fault;
+
+// The first byte of a description.
+const KIND: u8 = 1;
+
+// How many bytes stand before the name.
+const FIXED: usize = 42;
 
 // A file's length, the root of its tree, and its name, which plays no part in the protocol.
 #[derive(Clone, Copy)]
@@ -28,33 +34,20 @@ impl Description<'_> {
     }
 }
 
-// The description that these bytes are, its name a part of them, or what is wrong with them.
-pub fn read_description(bytes: &[u8]) -> Result<Description<'_>, Damage>
-    ensures read { MatchResult result (λ d. read_description bytes.now ≡ Ok (said d)) (λ e. read_description bytes.now ≡ Err e) }
+// The description of which these are the fields, or what is wrong with them.
+fn description_of<'a>(
+    length: &[u8; 8],
+    root: &[u8; 32],
+    size: &[u8; 1],
+    name: &'a [u8],
+) -> Result<Description<'a>, Damage>
+    ensures made { MatchResult result (λ d. description_of length.now root.now size.now name.now ≡ Ok (said d)) (λ e. description_of length.now root.now size.now name.now ≡ Err e) }
     ensures possible { IfOk result (λ d. is_length d.length ≡ true) }
-    ensures round_trip { ReadsWritten IsDescription description_bytes read_description }
-    ensures one_form { WritesRead IsDescription description_bytes read_description }
 {
-    let Some((kind, rest)) = bytes.split_first() else {
-        return Err(Damage::Short);
-    };
-    if *kind != 1 {
-        return Err(Damage::Kind);
-    }
-    let Some((length, rest)) = rest.split_first_chunk::<8>() else {
-        return Err(Damage::Short);
-    };
-    let Some((root, rest)) = rest.split_first_chunk::<32>() else {
-        return Err(Damage::Short);
-    };
-    let Some((size, name)) = rest.split_first() else {
-        return Err(Damage::Short);
-    };
-    let length = number8(*length);
-    if Numbers::new(length, *root).is_err() {
-        return Err(Damage::Length);
-    }
-    if name.len() != usize::from(*size) {
+    let length = u64::from_be_bytes(*length);
+    Numbers::new(length, *root).map_err(|_| Damage::Length)?;
+    let [size] = *size;
+    if name.len() != usize::from(size) {
         return Err(Damage::Name);
     }
     Ok(Description {
@@ -64,20 +57,37 @@ pub fn read_description(bytes: &[u8]) -> Result<Description<'_>, Damage>
     })
 }
 
+// The description that these bytes are, its name a part of them, or what is wrong with them.
+pub fn read_description(bytes: &[u8]) -> Result<Description<'_>, Damage>
+    ensures read { MatchResult result (λ d. read_description bytes.now ≡ Ok (said d)) (λ e. read_description bytes.now ≡ Err e) }
+    ensures possible { IfOk result (λ d. is_length d.length ≡ true) }
+    ensures round_trip { ReadsWritten IsDescription description_bytes read_description }
+    ensures one_form { WritesRead IsDescription description_bytes read_description }
+{
+    let ([kind], rest) = read_field::<1>(bytes)?;
+    if *kind != KIND {
+        return Err(Damage::Kind);
+    }
+    let (length, rest) = read_field(rest)?;
+    let (root, rest) = read_field(rest)?;
+    let (size, name) = read_field(rest)?;
+    description_of(length, root, size, name)
+}
+
 // Writes the description to the front of `out` and says how many bytes it has, or writes nothing where its
 // length or its name can't be or `out` is too short.
 pub fn write_description(d: &Description, out: &mut [u8]) -> Option<usize>
     ensures count { result ≡ (if fits (said d.now) out.old then Some (description_size (said d.now)) else None) }
     ensures bytes { out.new ≡ written (said d.now) out.old }
 {
-    let size = d.name.len();
-    if Numbers::new(d.length, d.root).is_err() || size > 255 || out.len() < 42 + size {
+    d.numbers().ok()?;
+    let size = u8::try_from(d.name.len()).ok()?;
+    if out.len() < FIXED + d.name.len() {
         return None;
     }
-    out[0] = 1;
-    out[1..9].copy_from_slice(&bytes8(d.length));
-    out[9..41].copy_from_slice(&d.root);
-    out[41] = size as u8;
-    out[42..42 + size].copy_from_slice(d.name);
-    Some(42 + size)
+    let place = write_field(out, 0, &[KIND]);
+    let place = write_field(out, place, &d.length.to_be_bytes());
+    let place = write_field(out, place, &d.root);
+    let place = write_field(out, place, &[size]);
+    Some(write_field(out, place, d.name))
 }

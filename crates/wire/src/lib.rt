@@ -1,13 +1,15 @@
-// Descriptions and settings as bytes: what is written, and what is read of any byte string. And bytes as text.
+// Descriptions and settings as bytes, field by field: what is written, and what is read of any byte string. And
+// bytes as text.
 #![tactic(auto)]
 
-mod big_endian;
 mod damage;
 mod description;
+mod fields;
 mod hex;
 mod settings;
 
 pub use damage::Damage;
 pub use description::{Description, read_description, write_description};
-pub use hex::hex_digits;
+pub use fields::{read_field, write_field};
+pub use hex::{Hex, hex_digits};
 pub use settings::{Settings, read_settings, write_settings};

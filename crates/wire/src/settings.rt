@@ -3,8 +3,8 @@ ghost use Rattle.std.specs.Prelude.{◌≡◌};
 ghost use Rattle.wire.specs.Formats.{read_settings, settings_bytes};
 ghost use Rattle.wire.specs.Laws.{IsSettings, ReadsWritten, WritesRead};
 
-use crate::big_endian::{bytes8, number2, number8};
 use crate::damage::Damage;
+use crate::fields::{read_field, write_field};
 
 // How many ticks a round has, in all settings.
 const ROUND: u16 = 64;
@@ -21,24 +21,18 @@ pub fn read_settings(bytes: &[u8]) -> Result<Settings, Damage>
     ensures round_trip { ReadsWritten IsSettings settings_bytes read_settings }
     ensures one_form { WritesRead IsSettings settings_bytes read_settings }
 {
-    let Some((round, rest)) = bytes.split_first_chunk::<2>() else {
-        return Err(Damage::Short);
-    };
-    let Some((first_tick, rest)) = rest.split_first_chunk::<8>() else {
-        return Err(Damage::Short);
-    };
-    let Some((own_number, rest)) = rest.split_first_chunk::<8>() else {
-        return Err(Damage::Short);
-    };
-    if number2(*round) != ROUND {
+    let (round, rest) = read_field::<2>(bytes)?;
+    let (first_tick, rest) = read_field::<8>(rest)?;
+    let (own_number, rest) = read_field::<8>(rest)?;
+    if u16::from_be_bytes(*round) != ROUND {
         return Err(Damage::Round);
     }
     if !rest.is_empty() {
         return Err(Damage::Long);
     }
     Ok(Settings {
-        first_tick: number8(*first_tick),
-        own_number: number8(*own_number),
+        first_tick: u64::from_be_bytes(*first_tick),
+        own_number: u64::from_be_bytes(*own_number),
     })
 }
 
@@ -47,8 +41,8 @@ pub fn write_settings(s: &Settings) -> [u8; 18]
     ensures { result ≡ settings_bytes s.now }
 {
     let mut bytes = [0; 18];
-    bytes[0..2].copy_from_slice(&ROUND.to_be_bytes());
-    bytes[2..10].copy_from_slice(&bytes8(s.first_tick));
-    bytes[10..18].copy_from_slice(&bytes8(s.own_number));
+    let place = write_field(&mut bytes, 0, &ROUND.to_be_bytes());
+    let place = write_field(&mut bytes, place, &s.first_tick.to_be_bytes());
+    write_field(&mut bytes, place, &s.own_number.to_be_bytes());
     bytes
 }

@@ -1,7 +1,6 @@
 -- A record is read field by field, and has one form in bytes.
 use Rattle.std.proofs.Common.{rules}
-use Rattle.store.proofs.Fields.{four_bytes, rest_of}
-use Rattle.store.proofs.Form.{record_read, record_written}
+use Rattle.store.proofs.Form.{fields_in, record_read, record_written}
 use Rattle.store.proofs.records.read_record.Goals as goal
 use Rattle.wire.specs.Laws.{ReadsWritten, WritesRead}
 use Rattle.store.specs.Laws.{IsRecord}
@@ -14,11 +13,15 @@ with_laws p = record { read = p; round_trip = record_read; one_form = record_wri
 pub returns-then-block-ne-SIZE : goal.returns-then-block-ne-SIZE
 returns-then-block-ne-SIZE c = with_laws (search rules)
 
-pub returns-then-count-gt-MOST : goal.returns-then-count-gt-MOST
-returns-then-count-gt-MOST c = with_laws (search rules)
+pub returns-in_err-digest : goal.returns-in_err-digest
+returns-in_err-digest c = with_laws (search rules)
 
-pub returns-then-not-all_zero : goal.returns-then-not-all_zero
-returns-then-not-all_zero c = with_laws (search (rules, rest_of))
+pub returns-in_err-count : goal.returns-in_err-count
+returns-in_err-count c = with_laws (search rules)
 
 pub returns : goal.returns
-returns c = with_laws (search (rules, rest_of, four_bytes))
+returns c =
+    let fields =
+    fields_in c.args.block.now c.in_ok-piece.piece.now c.in_ok-piece.rest.now c.in_ok-digest.digest.now c.in_ok-digest.rest.now c.in_ok-count.field-0-0.now c.in_ok-count.rest.now
+    (search rules) (search rules) (search rules) (search rules) in
+    with_laws (rw fields c.record_of.ensures)

@@ -1,7 +1,0 @@
--- Two bytes are the number that their sum is.
-use Rattle.std.proofs.Common.{rules}
-use Rattle.wire.proofs.Sums.{two_bytes}
-use Rattle.wire.proofs.big_endian.number2.Goals as goal
-
-pub returns : goal.returns
-returns c = search (rules, two_bytes)
