@@ -1,123 +1,104 @@
 // Checks a file against a description.
-use crate::reading::{MUCH, digest_file, fail, open, parse, read_bytes, read_part, report};
+use crate::failure::{Failure, OrFail, Wrong};
+use crate::job::Job;
 use crate::spans::Spans;
 use merkle::{Numbers, check};
+use program::read_part;
 use sha256::digest_after;
 use store::read_record;
 
+// A file, what it is to be, and which of its pieces were found wrong.
+#[derive(Drop)]
+struct Comparison<'a> {
+    job: Job<'a>,
+    file: &'a str,
+    numbers: Numbers,
+    wrong: Spans,
+}
+
 // Prints how many pieces of the file are right, and which are not.
-pub fn compare(
-    rt: &HostRuntime,
-    verbose: bool,
-    description: &str,
-    file: &str,
-    records: Option<&str>,
-) -> anyhow::Result<()> {
+pub fn compare<'a>(
+    job: Job<'a>,
+    description: &'a str,
+    file: &'a str,
+    records: Option<&'a str>,
+) -> Result<(), Failure<'a>> {
     let mut room = [0u8; 298];
-    let bytes = read_bytes(rt, description, &mut room)?;
-    let Ok(numbers) = parse(rt, description, bytes)?.numbers() else {
-        return fail(rt, description, "its length can't be (fault 11)");
+    let numbers = job
+        .read_description(description, &mut room)?
+        .numbers()
+        .or_fail(description, Wrong::DescribedLength)?;
+    let mut comparison = Comparison {
+        job,
+        file,
+        numbers,
+        wrong: Spans::new(job.rt.alloc()),
     };
-    let mut wrong = Spans::new(rt.alloc());
     let right = match records {
-        Some(records) => each(rt, verbose, numbers, file, records, &mut wrong)?,
-        None => all_or_none(rt, verbose, numbers, file, &mut wrong)?,
+        Some(records) => comparison.each(records)?,
+        None => comparison.all_or_none()?,
     };
-    let pieces = numbers.pieces();
-    println!(rt; "right: {right} of {pieces}")?;
-    rt.print("wrong: ")?;
-    wrong.print(rt)
+    println!(job.rt; "right: {right} of {}", numbers.pieces())?;
+    println!(job.rt; "wrong: {}", comparison.wrong)?;
+    Ok(())
 }
 
-// Without records there is no path to judge a single piece by: all are right, or none can be shown to be.
-fn all_or_none(
-    rt: &HostRuntime,
-    verbose: bool,
-    numbers: Numbers,
-    file: &str,
-    wrong: &mut Spans,
-) -> anyhow::Result<u32> {
-    let pieces = numbers.pieces();
-    let Ok(found) = open(rt, file)?.metadata() else {
-        return fail(rt, file, "its length can't be found");
-    };
-    if found.len() == numbers.length() {
-        let Ok(known) = digest_file(rt, verbose, file)?.numbers() else {
-            return fail(rt, file, "it changed while it was read");
-        };
-        if known.root() == numbers.root() {
-            return Ok(pieces);
+impl<'a> Comparison<'a> {
+    // Without records there is no path to judge a single piece by: all are right, or none can be shown to be.
+    fn all_or_none(&mut self) -> Result<u32, Failure<'a>> {
+        let pieces = self.numbers.pieces();
+        let found = self.job.open(self.file)?.metadata();
+        let found = found.or_fail(self.file, Wrong::NoLength)?;
+        if found.len() == self.numbers.length() {
+            let known = self.job.digest(self.file)?.numbers();
+            let known = known.or_fail(self.file, Wrong::Changed)?;
+            if known.root() == self.numbers.root() {
+                return Ok(pieces);
+            }
         }
+        self.note(0, pieces - 1)?;
+        Ok(0)
     }
-    note(rt, file, wrong, 0, pieces - 1)?;
-    Ok(0)
-}
 
-// With records each piece is judged by the path in its own.
-fn each(
-    rt: &HostRuntime,
-    verbose: bool,
-    numbers: Numbers,
-    file: &str,
-    records: &str,
-    wrong: &mut Spans,
-) -> anyhow::Result<u32> {
-    let mut pieces = open(rt, file)?;
-    let mut blocks = open(rt, records)?;
-    let mut right = 0u32;
-    for m in 0..numbers.pieces() {
-        let length = numbers.piece_length(m).unwrap_or(0) as usize;
-        let mut room = [0u8; 16384];
-        let Ok(piece) = read_part(&mut pieces, &mut room[0..length]) else {
-            return fail(rt, file, "it can't be read");
-        };
-        let mut block = [0u8; 1024];
-        let Ok(block) = read_part(&mut blocks, &mut block) else {
-            return fail(rt, records, "it can't be read");
-        };
-        if is_right(numbers, m, piece, block) {
-            right = right.saturating_add(1);
-        } else {
-            note(rt, file, wrong, m, m)?;
+    // With records each piece is judged by the path in its own.
+    fn each(&mut self, records: &'a str) -> Result<u32, Failure<'a>> {
+        let numbers = self.numbers;
+        let mut pieces = self.job.open(self.file)?;
+        let mut blocks = self.job.open(records)?;
+        let mut right = 0u32;
+        // A piece has a number and stands in two files, each of which can fail, so the loop goes by numbers.
+        for m in 0..numbers.pieces() {
+            let length = numbers.piece_length(m).unwrap_or(0) as usize;
+            let mut piece = [0u8; 16384];
+            let piece = read_part(&mut pieces, &mut piece[0..length]).or_fail(
+                self.file,
+                Wrong::NotRead,
+            )?;
+            let mut block = [0u8; 1024];
+            let block = read_part(&mut blocks, &mut block).or_fail(records, Wrong::NotRead)?;
+            if is_right(numbers, m, piece, block) {
+                right = right.saturating_add(1);
+            } else {
+                self.note(m, m)?;
+            }
+            self.job
+                .report((u64::from(m) + 1) * 16_384, numbers.length())?;
         }
-        let done = (u64::from(m) + 1) * 16_384;
-        if verbose && numbers.length() > MUCH && done % MUCH == 0 {
-            report(rt, done, numbers.length())?;
-        }
+        Ok(right)
     }
-    Ok(right)
-}
 
-// Notes pieces that aren't right.
-fn note(
-    rt: &HostRuntime,
-    file: &str,
-    wrong: &mut Spans,
-    first: u32,
-    last: u32,
-) -> anyhow::Result<()> {
-    match wrong.note(first, last) {
-        Ok(()) => Ok(()),
-        Err(_) => fail(rt, file, "there is no memory for the list of what is wrong"),
+    // Notes pieces that aren't right.
+    fn note(&mut self, first: u32, last: u32) -> Result<(), Failure<'a>> {
+        let memory = Wrong::NoMemory("for the list of what is wrong");
+        self.wrong.note(first, last).or_fail(self.file, memory)
     }
 }
 
 // Whether a block is the record of this piece with these bytes, and its path leads from them to the root.
 fn is_right(numbers: Numbers, m: u32, piece: &[u8], block: &[u8]) -> bool {
-    match read_record(block) {
-        Ok(record) => {
-            record.piece == m
-                && is_leaf(piece, record.digest)
-                && check(numbers, m, piece, record.path)
-        }
-        Err(_) => false,
-    }
-}
-
-// Whether this is the leaf digest of a piece.
-fn is_leaf(piece: &[u8], digest: [u8; 32]) -> bool {
-    match digest_after(0, piece) {
-        Ok(leaf) => leaf == digest,
-        Err(_) => false,
-    }
+    read_record(block).is_ok_and(|record| {
+        record.piece == m
+            && digest_after(0, piece) == Ok(record.digest)
+            && check(numbers, m, piece, record.path)
+    })
 }

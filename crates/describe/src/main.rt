@@ -2,6 +2,8 @@
 #![tactic(auto)]
 
 mod comparing;
+mod failure;
+mod job;
 mod making;
 mod reading;
 mod showing;
@@ -9,24 +11,29 @@ mod spans;
 
 use anyhow::anyhow;
 use comparing::compare;
+use failure::Failure;
+use job::Job;
 use making::make;
+use program::status;
 use showing::show;
 use std::env;
 use std::process::ExitCode;
 
 // Ends with status 1 where something went wrong; what is said of it is said below.
 fn main(rt: HostRuntime) -> ExitCode {
-    match begin(&rt) {
-        Ok(()) => ExitCode::SUCCESS,
-        Err(_) => ExitCode::FAILURE,
-    }
+    status(begin(&rt))
 }
 
-// Takes the words of the command line.
+// Takes the words of the command line, and says what goes wrong with what they ask for.
 fn begin(rt: &HostRuntime) -> anyhow::Result<()> {
     let words: Vec<String> = env::args(rt)?.skip(1).collect(rt.alloc())?;
     let (verbose, words) = without_flag(words.as_slice());
-    run(rt, verbose, words)
+    match run(Job { rt, verbose }, words) {
+        Ok(()) => return Ok(()),
+        Err(Failure::Output) => {}
+        Err(failure) => eprintln!(rt; "describe: {failure}")?,
+    }
+    Err(anyhow!("failed"))
 }
 
 // The arguments after `-v`, if that is the first.
@@ -37,41 +44,24 @@ fn without_flag(words: &[String]) -> (bool, &[String]) {
     }
 }
 
-fn run(rt: &HostRuntime, verbose: bool, words: &[String]) -> anyhow::Result<()> {
+// Does what the command line asks for.
+fn run<'a>(job: Job<'a>, words: &'a [String]) -> Result<(), Failure<'a>> {
     match words {
         [command, rest @ ..] if command.as_str() == "show" => match rest {
-            [description] => show(rt, description.as_str()),
-            _ => usage(rt),
+            [description] => show(job, description.as_str()),
+            _ => Err(Failure::Usage),
         },
         [command, rest @ ..] if command.as_str() == "check" => match rest {
-            [description, file] => compare(rt, verbose, description.as_str(), file.as_str(), None),
+            [description, file] => compare(job, description.as_str(), file.as_str(), None),
             [description, file, records] => {
-                compare(
-                    rt,
-                    verbose,
-                    description.as_str(),
-                    file.as_str(),
-                    Some(records.as_str()),
-                )
+                let records = Some(records.as_str());
+                compare(job, description.as_str(), file.as_str(), records)
             }
-            _ => usage(rt),
+            _ => Err(Failure::Usage),
         },
         [file, description, records] => {
-            make(
-                rt,
-                verbose,
-                file.as_str(),
-                description.as_str(),
-                records.as_str(),
-            )
+            make(job, file.as_str(), description.as_str(), records.as_str())
         }
-        _ => usage(rt),
+        _ => Err(Failure::Usage),
     }
-}
-
-fn usage(rt: &HostRuntime) -> anyhow::Result<()> {
-    eprintln!(rt;
-        "describe: expected [-v] FILE DESCRIPTION RECORDS, show DESCRIPTION, or check DESCRIPTION FILE [RECORDS]"
-    )?;
-    Err(anyhow!("bad arguments"))
 }

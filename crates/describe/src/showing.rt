@@ -1,37 +1,33 @@
 // Prints a description.
-use crate::reading::{fail, parse, read_bytes};
-use wire::hex_digits;
+use crate::failure::{Failure, OrFail, Wrong};
+use crate::job::Job;
+use std::fmt;
+use wire::Hex;
 
 // A line each for the name, the length, the number of pieces and the root.
-pub fn show(rt: &HostRuntime, path: &str) -> anyhow::Result<()> {
+pub fn show<'a>(job: Job, path: &'a str) -> Result<(), Failure<'a>> {
     let mut room = [0u8; 298];
-    let bytes = read_bytes(rt, path, &mut room)?;
-    let description = parse(rt, path, bytes)?;
-    let Ok(numbers) = description.numbers() else {
-        return fail(rt, path, "its length can't be (fault 11)");
-    };
-    let Ok(top) = hex_digits(rt.alloc(), &description.root) else {
-        return fail(rt, path, "there is no memory for its root");
-    };
-    let (length, pieces) = (numbers.length(), numbers.pieces());
-    rt.print("name: ")?;
-    print_name(rt, description.name)?;
-    println!(rt; "length: {length}")?;
-    println!(rt; "pieces: {pieces}")?;
-    println!(rt; "top: {top}")?;
+    let description = job.read_description(path, &mut room)?;
+    let numbers = description.numbers().or_fail(path, Wrong::DescribedLength)?;
+    println!(job.rt; "name: {}", Name(description.name))?;
+    println!(job.rt; "length: {}", numbers.length())?;
+    println!(job.rt; "pieces: {}", numbers.pieces())?;
+    println!(job.rt; "top: {}", Hex(&description.root))?;
     Ok(())
 }
 
-// Printable bytes but the backslash as they are, every other as `\x` and two hex digits.
-fn print_name(rt: &HostRuntime, name: &[u8]) -> anyhow::Result<()> {
-    for byte in name {
-        let byte = *byte;
-        if (0x20..=0x7e).contains(&byte) && byte != b'\\' {
-            print!(rt; "{}", byte as char)?;
-        } else {
-            print!(rt; "\\x{byte:02x}")?;
+// A name as it is printed: printable bytes but the backslash as they are, every other as `\x` and two hex digits.
+#[derive(Clone, Copy)]
+struct Name<'a>(&'a [u8]);
+
+impl fmt::Display for Name<'_> {
+    fn fmt<W: fmt::Write>(&self, f: &mut fmt::Formatter<W>) -> fmt::Result {
+        for byte in self.0 {
+            match *byte {
+                byte @ 0x20..=0x7e if byte != b'\\' => write!(f, "{}", byte as char)?,
+                byte => write!(f, "\\x{byte:02x}")?,
+            }
         }
+        Ok(())
     }
-    println!(rt; "")?;
-    Ok(())
 }

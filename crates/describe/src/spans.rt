@@ -1,11 +1,23 @@
 // Numbers in a list with ranges, as `0,2,5-9`.
 use std::alloc::{AllocError, Global};
+use std::fmt;
 
 // All numbers from the first to the last.
 #[derive(Clone, Copy)]
 struct Span {
     first: u32,
     last: u32,
+}
+
+impl fmt::Display for Span {
+    fn fmt<W: fmt::Write>(&self, f: &mut fmt::Formatter<W>) -> fmt::Result {
+        let (first, last) = (self.first, self.last);
+        if first == last {
+            write!(f, "{first}")
+        } else {
+            write!(f, "{first}-{last}")
+        }
+    }
 }
 
 // Numbers that were noted in ascending order.
@@ -32,22 +44,17 @@ impl Spans {
         self.spans.push(Span { first, last })?;
         Ok(())
     }
+}
 
-    pub fn print(&self, rt: &HostRuntime) -> anyhow::Result<()> {
-        let mut before = "";
-        for span in self.spans.as_slice() {
-            let (first, last) = (span.first, span.last);
-            if first == last {
-                print!(rt; "{before}{first}")?;
-            } else {
-                print!(rt; "{before}{first}-{last}")?;
-            }
-            before = ",";
+impl fmt::Display for Spans {
+    fn fmt<W: fmt::Write>(&self, f: &mut fmt::Formatter<W>) -> fmt::Result {
+        let Some((first, others)) = self.spans.split_first() else {
+            return write!(f, "none");
+        };
+        write!(f, "{first}")?;
+        for span in others {
+            write!(f, ",{span}")?;
         }
-        if self.spans.is_empty() {
-            rt.print("none")?;
-        }
-        println!(rt; "")?;
         Ok(())
     }
 }

@@ -2,6 +2,7 @@
 ghost use Rattle.std.specs.Prelude.{◌≤◌};
 
 use std::alloc::{AllocError, Global};
+use std::iter;
 
 // The next number of a linear congruential generator.
 fn next(state: u32) -> u32 {
@@ -9,27 +10,23 @@ fn next(state: u32) -> u32 {
 }
 
 // How long the last piece is: whole, a few bytes, a few less than a whole one, or something between.
-fn last_length(pieces: u32) -> u32
-    requires { pieces ≤ 40 }
-    ensures { result ≤ 16384 }
+fn last_length(pieces: u8) -> u32
+    ensures { result ≤ 102255 }
 {
+    let count = u32::from(pieces);
     match pieces % 4 {
         0 => 16384,
-        1 => pieces,
-        2 => 16384 - pieces,
-        _ => 401 * pieces,
+        1 => count,
+        2 => 16384 - count,
+        _ => 401 * count,
     }
 }
 
 // A file of so many pieces; of each number that is drawn it has the high byte.
-pub(crate) fn drawn(heap: Global, pieces: u32) -> Result<Vec<u8>, AllocError>
-    requires { pieces ≤ 40 }
-{
-    let mut file = Vec::new(heap);
-    let mut state = pieces;
-    for _ in 0..16384 * pieces.saturating_sub(1) + last_length(pieces) {
-        state = next(state);
-        file.push((state >> 24) as u8)?;
-    }
-    Ok(file)
+pub(crate) fn drawn(heap: Global, pieces: u8) -> Result<Vec<u8>, AllocError> {
+    let length = 16384 * u32::from(pieces.saturating_sub(1)) + last_length(pieces);
+    iter::successors(Some(next(u32::from(pieces))), |state| Some(next(*state)))
+        .take(length as usize)
+        .map(|state| (state >> 24) as u8)
+        .collect(heap)
 }

@@ -1,7 +1,7 @@
 // All that is known of a file: its numbers, the digests of its pieces, and its tree.
 ghost use Rattle.std.specs.Prelude.{◌<◌};
 
-use anyhow::anyhow;
+use anyhow::Context;
 use merkle::{Digests, Numbers, Tree};
 use std::alloc::Global;
 
@@ -19,19 +19,17 @@ impl Known {
         let digests = taken(heap, file, 1048576)?;
         let numbers = numbers_of(&digests)?;
         let root = numbers.root();
-        let by_one = numbers_of(&taken(heap, file, 16384)?)?.root() == root;
-        let by_three = numbers_of(&taken(heap, file, 49152)?)?.root() == root;
-        let by_six = taken(heap, file, 98304)?;
-        let six = numbers_of(&by_six)?.root() == root;
-        let Ok(tree) = Tree::new(heap, by_six) else {
-            return Err(anyhow!("no tree"));
-        };
-        let in_tree = tree.numbers().root() == root;
+        let by_one = numbers_of(&taken(heap, file, 16384)?)?;
+        let by_three = numbers_of(&taken(heap, file, 49152)?)?;
+        let six = taken(heap, file, 98304)?;
+        let by_six = numbers_of(&six)?;
+        let tree = Tree::new(heap, six).ok().context("no tree")?;
+        let others = [by_one, by_three, by_six, tree.numbers()];
         Ok(Known {
             numbers,
             digests,
             tree,
-            agreements: [by_one, by_three, six, in_tree],
+            agreements: others.map(|other| other.root() == root),
         })
     }
 }
@@ -40,20 +38,18 @@ impl Known {
 fn taken(heap: Global, file: &[u8], size: usize) -> anyhow::Result<Digests>
     requires { 0 < size }
 {
-    let Ok(mut digests) = Digests::new(heap, file.len() as u64) else {
-        return Err(anyhow!("no digests"));
-    };
+    let mut digests = Digests::new(heap, file.len() as u64)
+        .ok()
+        .context("no digests")?;
     for part in file.chunks(size) {
-        if digests.take_in(part).is_err() {
-            return Err(anyhow!("a part was refused"));
-        }
+        digests.take_in(part).ok().context("a part was refused")?;
     }
     Ok(digests)
 }
 
 fn numbers_of(digests: &Digests) -> anyhow::Result<Numbers> {
-    match digests.numbers() {
-        Ok(numbers) => Ok(numbers),
-        Err(_) => Err(anyhow!("not all of the file was taken in")),
-    }
+    digests
+        .numbers()
+        .ok()
+        .context("not all of the file was taken in")
 }

@@ -1,8 +1,6 @@
 // The trees of files of 1 to 40 pieces, and what is said of their pieces and paths, as they are and damaged.
 #![tactic(auto)]
 
-ghost use Rattle.std.specs.Prelude.{◌≤◌};
-
 mod damaging;
 mod drawing;
 mod known;
@@ -10,10 +8,11 @@ mod trying;
 
 use drawing::drawn;
 use known::Known;
+use std::fmt;
 use trying::tries;
-use wire::hex_digits;
+use wire::Hex;
 
-const MOST: u32 = 40;
+const MOST: u8 = 40;
 
 fn main(rt: HostRuntime) -> anyhow::Result<()> {
     println!(rt; "pieces, root, the same by one piece, by three, by six, in the tree")?;
@@ -27,28 +26,29 @@ fn main(rt: HostRuntime) -> anyhow::Result<()> {
 }
 
 // Prints the root of a file of so many pieces, and rows for some of its places, the last one among them.
-fn show(rt: &HostRuntime, pieces: u32) -> anyhow::Result<()>
-    requires { pieces ≤ 40 }
-{
+fn show(rt: &HostRuntime, pieces: u8) -> anyhow::Result<()> {
     let file = drawn(rt.alloc(), pieces)?;
     let known = Known::of(rt.alloc(), &file)?;
-    let root = hex_digits(rt.alloc(), &known.numbers.root())?;
-    print!(rt; "{pieces} {root}")?;
-    print_row(rt, &known.agreements)?;
+    let root = known.numbers.root();
+    println!(rt; "{pieces} {}{}", Hex(&root), Row(&known.agreements))?;
     for place in 0..pieces {
         if (pieces - 1 - place) % (1 + pieces / 8) == 0 {
-            print!(rt; "  {place}")?;
-            print_row(rt, &tries(rt.alloc(), &file, &known, place)?)?;
+            let answers = tries(rt.alloc(), &file, &known, place)?;
+            println!(rt; "  {place}{}", Row(&answers))?;
         }
     }
     Ok(())
 }
 
-// Prints the rest of a line.
-fn print_row(rt: &HostRuntime, answers: &[bool]) -> anyhow::Result<()> {
-    for answer in answers {
-        rt.print(if *answer { " yes" } else { " no" })?;
+// Answers at the end of a line.
+#[derive(Clone, Copy)]
+struct Row<'a>(&'a [bool]);
+
+impl fmt::Display for Row<'_> {
+    fn fmt<W: fmt::Write>(&self, f: &mut fmt::Formatter<W>) -> fmt::Result {
+        for answer in self.0 {
+            write!(f, "{}", if *answer { " yes" } else { " no" })?;
+        }
+        Ok(())
     }
-    println!(rt; "")?;
-    Ok(())
 }

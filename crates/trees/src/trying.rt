@@ -1,9 +1,7 @@
 // What is said of a piece and its path, as they are and damaged.
-ghost use Rattle.std.specs.Prelude.{◌<◌};
-
 use crate::damaging::{longer, shorter, turned};
 use crate::known::Known;
-use anyhow::anyhow;
+use anyhow::Context;
 use merkle::{Path, check};
 use std::alloc::Global;
 
@@ -14,15 +12,12 @@ pub(crate) fn tries(
     heap: Global,
     file: &[u8],
     known: &Known,
-    place: u32,
-) -> anyhow::Result<[bool; 9]>
-    requires { place < 40 }
-{
+    place: u8,
+) -> anyhow::Result<[bool; 9]> {
     let numbers = known.numbers;
-    let at = place as usize;
-    let Some(piece) = file.chunks(16384).nth(at) else {
-        return Err(anyhow!("no such piece"));
-    };
+    let at = usize::from(place);
+    let place = u32::from(place);
+    let piece = file.chunks(16384).nth(at).context("no such piece")?;
     let path = bytes_of(heap, known.tree.path(place))?;
     let found = bytes_of(heap, known.digests.path(place))?;
     let other = bytes_of(heap, known.tree.path((place + 1) % numbers.pieces()))?;
@@ -45,8 +40,6 @@ pub(crate) fn tries(
 
 // The digests of a path one after the other.
 fn bytes_of(heap: Global, path: Option<Path>) -> anyhow::Result<Vec<u8>> {
-    let Some(path) = path else {
-        return Err(anyhow!("no such path"));
-    };
+    let path = path.context("no such path")?;
     Ok(path.bytes().to_vec(heap)?)
 }

@@ -5,28 +5,25 @@ mod standard;
 mod ways;
 
 use anyhow::anyhow;
+use program::status;
 use sha256::{TooLong, digest_of};
 use standard::{VECTORS, Vector};
-use std::alloc::{AllocError, Global};
 use std::process::ExitCode;
-use ways::{LANES, WAYS, first_and_others, in_lane, in_parts};
+use ways::{LANES, WAYS, first_and_others, in_lanes, in_parts};
 use wire::hex_digits;
 
 // Ends with status 1 where something went wrong; what is said of it is said below.
 fn main(rt: HostRuntime) -> ExitCode {
-    match compare_all(&rt) {
-        Ok(()) => ExitCode::SUCCESS,
-        Err(_) => ExitCode::FAILURE,
-    }
+    status(compare_all(&rt))
 }
 
 // Compares all vectors.
 fn compare_all(rt: &HostRuntime) -> anyhow::Result<()> {
-    let mut all = true;
+    let mut comparison = Comparison { rt, differs: false };
     for vector in &VECTORS {
-        all &= compare(rt, vector)?;
+        comparison.compare(vector)?;
     }
-    if !all {
+    if comparison.differs {
         println!(rt; "a digest differs")?;
         return Err(anyhow!("a digest differs"));
     }
@@ -35,50 +32,47 @@ fn compare_all(rt: &HostRuntime) -> anyhow::Result<()> {
     Ok(())
 }
 
-// Computes the digest of a message in each way and prints it; whether all are what the standard says.
-fn compare(rt: &HostRuntime, vector: &Vector) -> anyhow::Result<bool> {
-    let message = message_of(rt.alloc(), vector)?;
-    println!(rt; "{}", vector.name)?;
-    println!(rt; "  {:<31} {}", "standard", vector.digest)?;
-    let mut all = shown(rt, vector, "at once", digest_of(&message))?;
-    all &= shown(
-        rt,
-        vector,
-        "a byte and the others",
-        first_and_others(&message),
-    )?;
-    for lane in 0usize..4 {
-        all &= shown(rt, vector, LANES[lane], in_lane(&message, lane))?;
-    }
-    for way in &WAYS {
-        all &= shown(rt, vector, way.name, in_parts(&message, way.lengths))?;
-    }
-    Ok(all)
+// A comparison of digests, and whether one of them differs from what the standard says.
+#[derive(Drop)]
+struct Comparison<'a> {
+    rt: &'a HostRuntime,
+    differs: bool,
 }
 
-// The whole message.
-fn message_of(heap: Global, vector: &Vector) -> Result<Vec<u8>, AllocError> {
-    let mut message = Vec::new(heap);
-    for _ in 0..vector.times {
-        message.extend_from_slice(vector.part)?;
+impl Comparison<'_> {
+    // Computes the digest of a message in each way and prints it.
+    fn compare(&mut self, vector: &Vector) -> anyhow::Result<()> {
+        let message = vector.part.repeat(self.rt.alloc(), vector.times as usize)?;
+        println!(self.rt; "{}", vector.name)?;
+        println!(self.rt; "  {:<31} {}", "standard", vector.digest)?;
+        self.show(vector, "at once", digest_of(&message))?;
+        self.show(vector, "a byte and the others", first_and_others(&message))?;
+        for (name, digest) in LANES.into_iter().zip(in_lanes(&message)) {
+            self.show(vector, name, digest)?;
+        }
+        for way in &WAYS {
+            self.show(vector, way.name, in_parts(&message, way.lengths))?;
+        }
+        Ok(())
     }
-    Ok(message)
-}
 
-// Prints a digest and whether it is what the standard says.
-fn shown(
-    rt: &HostRuntime,
-    vector: &Vector,
-    how: &str,
-    digest: Result<[u8; 32], TooLong>,
-) -> anyhow::Result<bool> {
-    let Ok(digest) = digest else {
-        println!(rt; "  {how:<31} none: too long")?;
-        return Ok(false);
-    };
-    let digits = hex_digits(rt.alloc(), &digest)?;
-    let same = digits.as_str() == vector.digest;
-    let verdict = if same { "same" } else { "differs" };
-    println!(rt; "  {how:<31} {digits} {verdict}")?;
-    Ok(same)
+    // Prints a digest and whether it is what the standard says.
+    fn show(
+        &mut self,
+        vector: &Vector,
+        how: &str,
+        digest: Result<[u8; 32], TooLong>,
+    ) -> anyhow::Result<()> {
+        let Ok(digest) = digest else {
+            self.differs = true;
+            println!(self.rt; "  {how:<31} none: too long")?;
+            return Ok(());
+        };
+        let digits = hex_digits(self.rt.alloc(), &digest)?;
+        let same = digits.as_str() == vector.digest;
+        self.differs = self.differs || !same;
+        let verdict = if same { "same" } else { "differs" };
+        println!(self.rt; "  {how:<31} {digits} {verdict}")?;
+        Ok(())
+    }
 }

@@ -1,103 +1,84 @@
 // Plays each script that the command line names, and prints for each round who has the turn at each honest peer.
 #![tactic(auto)]
 
-use anyhow::anyhow;
-use arena::{Node, begin_round, seat_all};
-use script::{ReadFault, Script, read};
-use std::process::ExitCode;
-use std::{env, fs};
+mod failure;
+mod turn;
 
-// A script that was read, with the name that is printed for it.
+use arena::{Node, begin_round, seat_all};
+use failure::{Failure, Wrong};
+use program::name_of;
+use script::{Script, read};
+use std::process::ExitCode;
+use std::{env, fs, io};
+use turn::Turn;
+
+// A script that was read, with its path.
 #[derive(Drop)]
 struct Named {
-    name: String,
+    path: String,
     script: Script,
 }
 
-// Ends with status 1 where something went wrong; what is said of it is said below.
+// Ends with status 1 where something went wrong, and says what it was.
 fn main(rt: HostRuntime) -> ExitCode {
     match play_all(&rt) {
         Ok(()) => ExitCode::SUCCESS,
-        Err(_) => ExitCode::FAILURE,
+        Err(failure) => {
+            // Where that can't be said either, the status alone tells it.
+            let _ = failure.say(&rt);
+            ExitCode::FAILURE
+        }
     }
 }
 
 // Plays all scripts, one after the other.
-fn play_all(rt: &HostRuntime) -> anyhow::Result<()> {
+fn play_all(rt: &HostRuntime) -> Result<(), Failure> {
     for named in read_all(rt)? {
-        rt.print("winter ")?;
-        rt.println(named.name.as_str())?;
+        let name = name_of(named.path.as_str());
+        println!(rt; "winter {name}")?;
         play(rt, &named.script)?;
     }
     Ok(())
 }
 
 // Reads all scripts, so that none is played where one is bad.
-fn read_all(rt: &HostRuntime) -> anyhow::Result<Vec<Named>> {
+fn read_all(rt: &HostRuntime) -> Result<Vec<Named>, Failure> {
     let mut scripts = Vec::new(rt.alloc());
     for path in env::args(rt)?.skip(1) {
-        scripts.push(read_file(rt, path.as_str())?)?;
+        match read_script(rt, path.as_str()) {
+            Ok(script) => scripts.push(Named { path, script })?,
+            Err(wrong) => return Err(Failure::Script { path, wrong }),
+        }
     }
     if scripts.is_empty() {
-        eprintln!(rt; "winter: expected the names of scripts")?;
-        return Err(anyhow!("no script"));
+        return Err(Failure::NoScripts);
     }
     Ok(scripts)
 }
 
-// Reads a script; what is wrong with it is said on standard error.
-fn read_file(rt: &HostRuntime, path: &str) -> anyhow::Result<Named> {
-    let Ok(text) = fs::read(rt, path) else {
-        eprintln!(rt; "winter: {path}: it can't be read")?;
-        return Err(anyhow!("no script"));
-    };
-    match read(rt.alloc(), text.as_slice()) {
-        Ok(script) => Ok(Named {
-            name: String::from_str(rt.alloc(), name_of(path))?,
-            script,
-        }),
-        Err(ReadFault::Line(bad)) => {
-            eprintln!(rt; "winter: {path}: {bad}")?;
-            Err(anyhow!("bad script"))
-        }
-        Err(ReadFault::OutOfMemory) => {
-            eprintln!(rt; "winter: {path}: there is no memory for it")?;
-            Err(anyhow!("no memory"))
-        }
-    }
-}
-
-// The last part of a path.
-fn name_of(path: &str) -> &str {
-    match path.rsplit_once('/') {
-        Some((_, name)) => name,
-        None => path,
-    }
+fn read_script(rt: &HostRuntime, path: &str) -> Result<Script, Wrong> {
+    let text = fs::read(rt, path)?;
+    Ok(read(rt.alloc(), text.as_slice())?)
 }
 
 // Plays the rounds of a script.
-fn play(rt: &HostRuntime, script: &Script) -> anyhow::Result<()> {
+fn play(rt: &HostRuntime, script: &Script) -> Result<(), Failure> {
     let mut nodes = seat_all(rt.alloc(), script.peers.as_slice())?;
     let mut rest = script.events.as_slice();
     for round in 0..script.rounds {
         let due = begin_round(nodes.as_mut_slice(), rest, round);
-        let (_, later) = rest.split_at(due);
-        rest = later;
+        rest = rest.split_at(due).1;
         print_round(rt, round, nodes.as_slice())?;
     }
     Ok(())
 }
 
-// One round: at each honest peer who has the turn, or a dash where nobody has it.
-fn print_round(rt: &HostRuntime, round: u64, nodes: &[Node]) -> anyhow::Result<()> {
+// One round: at each honest peer who has the turn.
+fn print_round(rt: &HostRuntime, round: u64, nodes: &[Node]) -> io::Result<()> {
     print!(rt; "round {round} | turns")?;
     for node in nodes {
-        let id = node.id;
-        match node.holder {
-            Some(holder) => print!(rt; " {id}:{holder}")?,
-            None => print!(rt; " {id}:-")?,
-        }
+        let turn = Turn(node);
+        print!(rt; " {turn}")?;
     }
-    println!(rt; "")?;
-    Ok(())
+    println!(rt; "")
 }

@@ -1,0 +1,3 @@
+mod Fills
+mod Names
+mod Taking
