@@ -6,7 +6,7 @@ use Rattle.std.proofs.lemmas.Bool.Decides.{nat_tests}
 use Rattle.std.specs.List.{prefix_len}
 
 -- a word in front of others, where it is one
-abbrev put : List ℕ → List (List ℕ) → List (List ℕ)
+abbrev pub put : List ℕ → List (List ℕ) → List (List ℕ)
 put [] ws = []
 put (b ∷ w) ws = (b ∷ w) ∷ ws
 
@@ -74,23 +74,16 @@ first_split (x ∷ xs) = step (blank x) refl (first_split xs)
         let u : unblank (x ∷ xs) ≡ x ∷ xs = rw e in
         subst (Split (x ∷ xs)) (sym u) (word_or_none x xs e)
 
--- the first word of a line is what is cut off after its blanks, or there is none
-module _ (xs line word rest : List ℕ) (i n : ℕ) (blanks : i ≡ prefix_len blank xs) (cut : line ≡ drop i xs) (end : n ≡ prefix_len in_word line) (first : word ≡ take n line) (more : rest ≡ drop n line) where
-  split_off : words xs ≡ put word (words rest)
-  split_off =
-      let at_word : line ≡ unblank xs = cut ∙ ap (λ n. drop n xs) blanks in
-      subst (Split xs) (sym at_word) (first_split xs) ∙ sym (ap₂ (λ w r. put w (words r)) (first ∙ ap (λ n. take n line) end) (more ∙ ap (λ n. drop n line) end))
+-- the first word of a line is what is cut off after its blanks
+pub split_off : (xs line word rest : List ℕ) (i n : ℕ) → i ≡ prefix_len blank xs → line ≡ drop i xs → n ≡ prefix_len in_word line → word ≡ take n line → rest ≡ drop n line → words xs ≡ put word (words rest)
+split_off xs line word rest i n blanks cut end first more =
+    let at_word : line ≡ unblank xs = cut ∙ ap (λ n. drop n xs) blanks in
+    subst (Split xs) (sym at_word) (first_split xs) ∙ sym (ap₂ (λ w r. put w (words r)) (first ∙ ap (λ n. take n line) end) (more ∙ ap (λ n. drop n line) end))
 
-  pub no_word : true ≡ eqb (length word) 0 → words xs ≡ []
-  no_word e = split_off ∙ none word e
-    where
-      none : (w : List ℕ) → true ≡ eqb (length w) 0 → put w (words rest) ≡ []
-      none [] e = refl
-      none (b ∷ w) e = let long = eqb-true (length (b ∷ w)) 0 (sym e) in absurd (omega arith)
+pub no_word : (w : List ℕ) (ws : List (List ℕ)) → true ≡ eqb (length w) 0 → put w ws ≡ []
+no_word [] ws e = refl
+no_word (b ∷ w) ws e = let long = eqb-true (length (b ∷ w)) 0 (sym e) in absurd (omega arith)
 
-  pub one_word : false ≡ eqb (length word) 0 → words xs ≡ word ∷ words rest
-  one_word e = split_off ∙ one word e
-    where
-      one : (w : List ℕ) → false ≡ eqb (length w) 0 → put w (words rest) ≡ w ∷ words rest
-      one [] e = absurd (false≢true e)
-      one (b ∷ w) e = refl
+pub one_word : (w : List ℕ) (ws : List (List ℕ)) → false ≡ eqb (length w) 0 → put w ws ≡ w ∷ ws
+one_word [] ws e = absurd (false≢true e)
+one_word (b ∷ w) ws e = refl

@@ -1,4 +1,5 @@
 pub mod Laws
+pub mod Messages
 pub mod Sheets
 pub mod Sound
 pub mod Statements

@@ -1,4 +1,7 @@
 // What is said of a script that can't be read.
+ghost use Rattle.std.specs.Prelude.{Some};
+ghost use Rattle.script.specs.Messages.{expected_words, line_words, fault_words};
+
 use crate::sheet::{BadLine, ReadFault};
 use crate::statement::Expected;
 use std::error::Error;
@@ -6,6 +9,8 @@ use std::fmt;
 
 // What was expected, in words that go on after "expected".
 impl fmt::Display for Expected {
+    ghost output = { λ e. Some (expected_words e) };
+
     fn fmt<W: fmt::Write>(&self, f: &mut fmt::Formatter<W>) -> fmt::Result {
         f.write_str(match self {
             Expected::Statement => "a statement: peer, false, link, break or rounds",
@@ -29,6 +34,8 @@ impl fmt::Display for Expected {
 }
 
 impl fmt::Display for BadLine {
+    ghost output = { λ b. Some (line_words b) };
+
     fn fmt<W: fmt::Write>(&self, f: &mut fmt::Formatter<W>) -> fmt::Result {
         let BadLine { line, expected } = *self;
         write!(f, "line {line}: expected {expected}")
@@ -36,6 +43,8 @@ impl fmt::Display for BadLine {
 }
 
 impl fmt::Display for ReadFault {
+    ghost output = { λ f. Some (fault_words f) };
+
     fn fmt<W: fmt::Write>(&self, f: &mut fmt::Formatter<W>) -> fmt::Result {
         match self {
             ReadFault::Line(bad) => write!(f, "{bad}"),

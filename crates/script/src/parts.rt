@@ -36,20 +36,18 @@ impl<'a> Words<'a> {
     pub(crate) fn number(&mut self, wanted: Wanted) -> Result<u64, Expected>
         ensures { Takes (number wanted.low wanted.high wanted.expected (left self.old)) (left self.new) result }
     {
-        match self.next().and_then(number) {
-            Some(n) if (wanted.low..=wanted.high).contains(&n) => Ok(n),
-            _ => Err(wanted.expected),
-        }
+        self.next()
+            .and_then(number)
+            .filter(|n| (wanted.low..=wanted.high).contains(n))
+            .ok_or(wanted.expected)
     }
 
     // The word that is wanted.
     fn keyword(&mut self, wanted: &[u8], expected: Expected) -> Result<(), Expected>
         ensures { Takes (λ next. keyword wanted.now expected (left self.old) (next tt)) (left self.new) result }
     {
-        match self.next() {
-            Some(word) if word == wanted => Ok(()),
-            _ => Err(expected),
-        }
+        self.next().filter(|word| *word == wanted).ok_or(expected)?;
+        Ok(())
     }
 
     // Two peers' numbers, the word `at` and a tick.

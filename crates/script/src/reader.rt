@@ -91,10 +91,8 @@ impl Draft {
         if Words::of(line).next().is_none() {
             return Ok(self);
         }
-        match read_statement(line) {
-            Ok(statement) => self.with(number, statement),
-            Err(expected) => Err(ReadFault::at(number, expected)),
-        }
+        let statement = read_statement(line).map_err(|expected| ReadFault::at(number, expected))?;
+        self.with(number, statement)
     }
 
     // The whole script after its last line: it says how many rounds, and breaks only links that stand.

@@ -1,5 +1,6 @@
 // The words of a line.
-ghost use Rattle.std.specs.Prelude.{◌≡◌, [], ◌∷◌, MatchOption};
+ghost use Rattle.std.specs.Prelude.{◌≡◌};
+ghost use Rattle.std.specs.Iterator.{YieldsFirstRef, item_count};
 ghost use Rattle.script.specs.Words.{blank, in_word, left, words};
 
 // Is it a space, a tab or a carriage return?
@@ -29,11 +30,17 @@ impl<'a> Words<'a> {
     {
         Words { rest: line }
     }
+}
 
-    // The next word, if there is one more.
-    pub(crate) fn next(&mut self) -> Option<&'a [u8]>
-        ensures { MatchOption result ((left self.old ≡ []) × (left self.new ≡ [])) (λ word. left self.old ≡ word.now ∷ left self.new) }
-    {
+// The next word, if there is one more.
+impl<'a> Iterator for Words<'a> {
+    type Item = &'a [u8];
+
+    ghost next_gives = { YieldsFirstRef left };
+
+    ghost remaining = { item_count left };
+
+    fn next(&mut self) -> Option<&'a [u8]> {
         let blanks = self.rest.iter().take_while(|b| is_blank(**b)).count();
         let (_, line) = self.rest.split_at(blanks);
         let end = line.iter().take_while(|b| in_word(**b)).count();

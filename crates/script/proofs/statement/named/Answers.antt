@@ -1,7 +1,6 @@
 -- The name says which statement it is, and its parts are read one after another.
 use Rattle.std.proofs.Common.{ℕ, List, ◌∷◌, ap, ◌∙◌}
 use Rattle.script.proofs.Exits.{handed_on}
-use Rattle.script.proofs.SameWord.{none_says}
 use Rattle.script.proofs.statement.named.Goals as goal
 use Rattle.script.specs.Statements.{Read, ended, delay, statement}
 use Rattle.script.specs.Words.{left}
@@ -39,8 +38,3 @@ returns-in_err-a-in-break c =
 
 pub returns-in_ok-a-in-break : goal.returns-in_ok-a-in-break
 returns-in_ok-a-in-break c = ap (λ w. statement (w ∷ left c.args.words.now)) c.in-break.is ∙ c.in_ok-a-in-break.ensures broken
-
-pub returns-in_default : goal.returns-in_default
-returns-in_default c =
-    none_says c.args.name.now (left c.args.words.now) c.in_default.not-peer c.in_default.not-false c.in_default.not-link c.in_default.not-break
-    c.in_default.not-rounds c.in_default.not-pieces c.in_default.not-fall c.in_default.not-disk c.in_default.not-say

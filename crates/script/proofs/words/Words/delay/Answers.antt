@@ -8,4 +8,4 @@ use Rattle.std.proofs.lemmas.Bool.{cond-true}
 pub returns-in-Some : goal.returns-in-Some
 returns-in-Some c next =
     let here : is c.in-Some.word.now (codes "delay") ≡ true = search rules in
-    last_part c.number.result _ (ap (λ ws. delay ws next) c.in-Some.ensures ∙ cond-true _ _ _ here) (c.number.ensures next)
+    last_part c.number.result _ (ap (λ ws. delay ws next) c.in-Some.ensures.steps ∙ cond-true _ _ _ here) (c.number.ensures next)
