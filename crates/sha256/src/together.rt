@@ -57,7 +57,7 @@ fn after_four(v: Lanes, blocks: [&[[u8; 64]]; 4], count: usize) -> Lanes
         .zip(&q[..count])
         .zip(&r[..count])
         .zip(&s[..count])
-        .fold(v, |v, (((p, q), r), s)| compressed_four(v, p, q, r, s))
+        .fold(v, |v, (((p, q), r), s)| compressed_four(v, [p, q, r, s]))
 }
 
 // Takes in the blocks that all four have, side by side.
@@ -91,7 +91,8 @@ pub fn digest_four(first: u8, parts: [&[u8]; 4]) -> Result<[[u8; 32]; 4], TooLon
     ensures fits { is_ok result ≡ each_counts (map (λ part. part.now) parts.entry) }
     ensures value { IfOk result (λ ds. ds ≡ map (λ part. digest (first ∷ part.now)) parts.entry) }
 {
-    // `try_map` says nothing of what its closure captures, so each `?` stands for itself.
-    let [p, q, r, s] = parts.map(|part| Side::begun(first, part));
-    Ok(side_by_side([p?, q?, r?, s?]).map(Side::ended))
+    let sides = parts
+        .map(|part| Side::begun(first, part))
+        .try_map(|side| side)?;
+    Ok(side_by_side(sides).map(Side::ended))
 }

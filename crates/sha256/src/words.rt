@@ -12,17 +12,20 @@ pub(crate) trait Word: Copy {
     // The word in lane i.
     ghost lane: { ℕ → Self → ℕ };
 
+    // The same word in each lane.
     fn splat(x: u32) -> Self
         ensures { (i : ℕ) → i < lanes → lane i result ≡ x };
 
+    // The sum in each lane, without what is carried out of a word.
     fn plus(self, other: Self) -> Self
         ensures { (i : ℕ) → i < lanes → lane i result ≡ add (lane i self) (lane i other) };
 
-    // Its second clause, and that of `xor`, say that words are below 2 ^ 32.
+    // The bits that both words of a lane have; the second clause, here and at `xor`, says that words are below 2 ^ 32.
     fn and(self, other: Self) -> Self
         ensures value { (i : ℕ) → i < lanes → lane i result ≡ bit_and (lane i self) (lane i other) }
         ensures words { (i : ℕ) → i < lanes → (lane i self < 2 ^ 32) × (lane i other < 2 ^ 32) };
 
+    // The bits that just one of the two words of a lane has.
     fn xor(self, other: Self) -> Self
         ensures value { (i : ℕ) → i < lanes → lane i result ≡ bit_xor (lane i self) (lane i other) }
         ensures words { (i : ℕ) → i < lanes → (lane i self < 2 ^ 32) × (lane i other < 2 ^ 32) };

@@ -5,6 +5,7 @@ use Rattle.std.specs.List.{AllByRecursion, zip}
 use Rattle.std.specs.Simd.Lanes.{zip2}
 use Rattle.std.specs.Slice.Iter.{iter_rest}
 use Rattle.sha256.specs.Lanes.{lane}
+use Rattle.sha256.specs.Sha256.{compress, words}
 use Rattle.sha256.specs.Sides.{lanes}
 use Rattle.sha256.specs.Streams.{after}
 use Rattle.sha256.proofs.Arrays.{four_places}
@@ -31,7 +32,9 @@ returns c =
     let all = fold_over (zips (zips (zips fronts fronts) fronts) fronts) (λ y. (((y.0.0.0.now, y.0.0.1.now), y.0.1.now), y.1.now)) _
     (λ ys w. (lane 0 w ≡ after (lane 0 v) (map (λ y. y.0.0.0) ys)) × (lane 1 w ≡ after (lane 1 v) (map (λ y. y.0.0.1) ys)) × (lane 2 w ≡ after (lane 2 v) (map (λ y. y.0.1) ys)) × (lane 3 w ≡ after (lane 3 v) (map (λ y. y.1) ys))) _
     (λ ys u x w f so_far k.
-    ((next_row (λ y. y.0.0.0) ys _ _ so_far.0 (search rules), next_row (λ y. y.0.0.1) ys _ _ so_far.1 (search rules), next_row (λ y. y.0.1) ys _ _ so_far.2 (search rules), next_row (λ y. y.1) ys _ _ so_far.3 (search rules)), refl))
+    let next : lanes w ≡ zip2 (λ value block. compress value (words block.now)) (lanes u) (x.0.0.0 ∷ x.0.0.1 ∷ x.0.1 ∷ x.1 ∷ []) = search rules in
+    let at : (i : ℕ) → get_or (lanes w) i [] ≡ get_or (zip2 (λ value block. compress value (words block.now)) (lanes u) (x.0.0.0 ∷ x.0.0.1 ∷ x.0.1 ∷ x.1 ∷ [])) i [] = λ i. ap (λ values. get_or values i []) next in
+    ((next_row (λ y. y.0.0.0) ys _ _ so_far.0 (at 0), next_row (λ y. y.0.0.1) ys _ _ so_far.1 (at 1), next_row (λ y. y.0.1) ys _ _ so_far.2 (at 2), next_row (λ y. y.1) ys _ _ so_far.3 (at 3)), refl))
     c.zip-3.result (rows (blocks 0) (blocks 1) (blocks 2) (blocks 3)) v c.fold.result four.runs (refl, refl, refl, refl) c.fold.ensures.ran in
     let whole = columns (blocks 0) (blocks 1) (blocks 2) (blocks 3)
     (omega (arith, long 0 few.0, long 1 few.1.0)) (omega (arith, long 0 few.0, long 2 few.1.1.0)) (omega (arith, long 0 few.0, long 3 few.1.1.1.0)) in
