@@ -92,7 +92,7 @@ pub fn seat_all(heap: Global, peers: &[Peer]) -> Result<Vec<Node>, AllocError>
     ensures { MatchResult result (λ v. seats v.items ≡ seated peers.now) (λ _. 0 < length (seated peers.now)) }
 {
     let mut nodes = Vec::new(heap);
-    // Each is pushed, since `collect` says nothing of when there is no memory, and this contract does.
+    // Each is pushed: with `collect`, which says nothing of when there is no memory, the proof of this contract didn't close.
     for peer in peers {
         if peer.honest {
             nodes.push(Node::new(peer.id))?;

@@ -1,6 +1,6 @@
 -- How a part is taken in, turn by turn.
-use Rattle.std.proofs.Common.{◌≡◌, ℕ, ◌+◌, ◌%◌, ◌≤◌, true, eqb, leb, List, [], ◌++◌, length, sym, refl, ap, ◌∙◌, subst, arith}
-use Rattle.std.proofs.lemmas.List.{append-nil, append_assoc, length-append}
+use Rattle.std.proofs.Common.{◌≡◌, ℕ, ◌+◌, ◌%◌, ◌≤◌, true, eqb, leb, List, ◌++◌, length, sym, ap, ◌∙◌, subst, arith}
+use Rattle.std.proofs.lemmas.List.{append_assoc, length-append}
 use Rattle.std.proofs.lemmas.Bool.{and_parts, eqb-true, leb-true}
 use Rattle.merkle.specs.Files.{Of, TakesIn, follows}
 use Rattle.merkle.specs.declared.digests.Digests.{Digests}
@@ -10,10 +10,6 @@ as_file {d} xs ys e o = subst (λ (f : List ℕ). Of f d) e o
 
 as_part : (before after : Digests) (xs ys : List ℕ) → xs ≡ ys → TakesIn xs before after → TakesIn ys before after
 as_part before after xs ys e t = subst (λ (p : List ℕ). TakesIn p before after) e t
-
--- Nothing.
-takes_none : (d : Digests) → TakesIn [] d d
-takes_none d = record { taken = λ file o. as_file file (file ++ []) (sym (append-nil file)) o; counted = omega arith; same = refl }
 
 -- One part and then another.
 takes_both : {before mid after : Digests} (xs ys : List ℕ) → TakesIn xs before mid → TakesIn ys mid after → TakesIn (xs ++ ys) before after
@@ -32,10 +28,6 @@ pub record Reached (before after : Digests) (part rest : List ℕ) : Type 0 wher
 -- What was taken in and what is left are as long as the part.
 pub reached_long : {before after : Digests} {part rest : List ℕ} (r : Reached before after part rest) → length part ≡ length r.front + length rest
 reached_long {before} {after} {part} {rest} r = ap length r.whole ∙ length-append r.front rest
-
--- All of it is left.
-pub reached_none : (d : Digests) (part rest : List ℕ) → rest ≡ part → Reached d d part rest
-reached_none d part rest e = record { front = []; whole = sym e; taken = takes_none d }
 
 -- What is left begins with what is taken in next.
 pub reached_more : {before mid after : Digests} {part rest : List ℕ} (xs left : List ℕ) → Reached before mid part rest → rest ≡ xs ++ left → TakesIn xs mid after → Reached before after part left

@@ -18,7 +18,8 @@ use std::alloc::Global;
 use swarm::Fault;
 
 impl Digests {
-    // The leaves of the whole file, once all of it was taken in.
+    // The leaves of the whole file, once all of it was taken in; refused with the fault that a part which can't follow gets, as
+    // no type would say it more plainly.
     fn whole(&self) -> Result<Row<'_>, Fault>
         ensures { MatchResult result (λ row. (complete self.now ≡ true) × (row.leaves.now ≡ self.now.leaves.items)) (λ e. (complete self.now ≡ false) × (e ≡ Fault.BadPiece)) }
     {

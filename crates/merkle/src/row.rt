@@ -44,6 +44,7 @@ impl Part for Row<'_> {
 
 impl Row<'_> {
     // The root over it, and each node on the way is put at its place: between the nodes of the left half and those of the right.
+    // It stands beside `root`, which is lent no place for nodes where only the root is wanted.
     pub(crate) fn fill(self, nodes: &mut [[u8; 32]]) -> [u8; 32]
         requires { length nodes.old + 1 ≡ length self.leaves.now }
         ensures top { result ≡ root self.entry.leaves.now }

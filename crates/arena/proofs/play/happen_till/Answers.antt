@@ -1,20 +1,13 @@
 -- Those before the first that is not due happen.
-use Rattle.std.proofs.Common.{◌≡◌, not, ltb, unwrap_or, length, get_or, take, sym, ap, ◌∙◌, rules, tests, arith}
+use Rattle.std.proofs.Common.{◌≡◌, not, ltb, unwrap_or, length, take, sym, ap, ◌∙◌, rules, tests, arith}
 use Rattle.arena.proofs.Due.{due_till-place, place_or_all, happened}
 use Rattle.arena.proofs.play.happen_till.Goals as goal
 use Rattle.arena.specs.Seats.{seats, happens, due_till}
-use Rattle.script.proofs.Standing.{no_event}
 use Rattle.std.proofs.lemmas.Iterator.{YieldsList-from_slice}
 use Rattle.std.proofs.lemmas.Iterator.Search.{position_from_yields_List}
-use Rattle.std.proofs.lemmas.List.Sums.{fold_more, prefix_len-le-length}
+use Rattle.std.proofs.lemmas.List.Sums.{prefix_len-le-length}
 use Rattle.std.proofs.lemmas.List.{take_all}
 use Rattle.std.specs.List.{fold}
-
-pub loop-event-preserved : goal.loop-event-preserved
-loop-event-preserved c =
-    let es = take c.unwrap_or-due.result c.args.events.now in
-    let i = c.loop-event.event-index in
-    c.happen.ensures ∙ ap (happens (get_or es i no_event)) c.loop-event.invariant ∙ sym (fold_more (λ ss e. happens e ss) (seats c.args.nodes.now) es i no_event c.loop-event-test.true)
 
 pub returns : goal.returns
 returns c =

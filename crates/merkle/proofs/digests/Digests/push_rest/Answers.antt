@@ -1,13 +1,8 @@
 use Rattle.std.proofs.Common.{◌≡◌, ◌+◌, length, ap, ◌∙◌, arith}
 use Rattle.std.proofs.lemmas.List.{length-append}
 use Rattle.std.specs.Slice.Iter.{chunks_rest}
-use Rattle.merkle.proofs.Growing.{reached_none, reached_more, reached_long}
+use Rattle.merkle.proofs.Growing.{reached_more, reached_long}
 use Rattle.merkle.proofs.digests.Digests.push_rest.Goals as goal
-
-pub loop-piece-init : goal.loop-piece-init
-loop-piece-init c =
-    let all : chunks_rest c.into_iter-piece-iterator.result ≡ c.args.part.now = cc in
-    (reached_none _ _ _ all, λ some. omega (arith, ap length all), cc)
 
 pub loop-piece-preserved : goal.loop-piece-preserved
 loop-piece-preserved c =
