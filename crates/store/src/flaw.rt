@@ -1,11 +1,9 @@
 // What is wrong with bytes that are no record, and with a record that can't be written.
-ghost use Rattle.std.specs.Prelude.{◌≡◌, Some};
+ghost use Rattle.std.specs.Prelude.{Some};
 ghost use Rattle.store.specs.Words.{flaw_words, unfit_words};
-ghost use Rattle.store.specs.declared.flaw.Flaw.TheVariants.{Size};
 
 use std::error::Error;
 use std::fmt;
-use wire::Damage;
 
 #[derive(Clone, Copy, PartialEq, Eq, Debug)]
 pub enum Flaw {
@@ -15,15 +13,6 @@ pub enum Flaw {
     Count,
     // A byte after the path that isn't 0.
     Rest,
-}
-
-// Bytes that end before the last field of a fixed size aren't 1,024.
-impl From<Damage> for Flaw {
-    ghost from_gives = { λ _ f. f ≡ Size };
-
-    fn from(_damage: Damage) -> Flaw {
-        Self::Size
-    }
 }
 
 impl fmt::Display for Flaw {

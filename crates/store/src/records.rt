@@ -1,12 +1,14 @@
 // The record of a piece, and its block of bytes.
-ghost use Rattle.std.specs.Prelude.{◌≡◌, ◌≤◌, length, is_ok, IfErr, Ok, Err, MatchResult};
+ghost use Rattle.std.specs.Prelude.{◌≡◌, ◌<◌, ◌≤◌, length, is_ok, IfErr, Ok, Err, MatchResult};
 ghost use Rattle.store.specs.Laws.{IsRecord};
 ghost use Rattle.store.specs.Records.{all_zero, said, fits, read_record, record_of, refusal, record_bytes, written};
+ghost use Rattle.store.specs.declared.flaw.Flaw.TheVariants.{Size};
 ghost use Rattle.wire.specs.Bytes.{number_of};
+ghost use Rattle.wire.specs.Formats.{IsField};
 ghost use Rattle.wire.specs.Laws.{ReadsWritten, WritesRead};
 
 use crate::flaw::{Flaw, Unfit};
-use wire::{read_field, write_field};
+use wire::{Fields, write_field};
 
 // How many bytes a block has.
 const SIZE: usize = 1024;
@@ -15,7 +17,7 @@ const SIZE: usize = 1024;
 const MOST: usize = 16;
 
 // A piece's number, its digest, and the digests of its path, one after the other.
-// The path is bytes and no list of digests, as a part of a block is lent and nothing copied.
+// The path is bytes: whole digests would ask more of callers, who may give any bytes and are refused by `Unfit::Path`.
 #[derive(Clone, Copy)]
 pub struct Record<'a> {
     pub piece: u32,
@@ -55,6 +57,13 @@ fn record_of<'a>(
     })
 }
 
+// The next field of a block; a block in which it isn't whole has another size.
+fn next<'a, const N: usize>(fields: &mut Fields<'a>) -> Result<&'a [u8; N], Flaw>
+    ensures { MatchResult result (λ x. IsField N fields.old.0.now x.now fields.new.0.now) (λ e. (length fields.old.0.now < N) × (e ≡ Size)) }
+{
+    fields.next().map_err(|_| Flaw::Size)
+}
+
 // The record that this block is, its path a part of it, or what is wrong with the block.
 pub fn read_record(block: &[u8]) -> Result<Record<'_>, Flaw>
     ensures read { MatchResult result (λ x. read_record block.now ≡ Ok (said x)) (λ e. read_record block.now ≡ Err e) }
@@ -64,10 +73,11 @@ pub fn read_record(block: &[u8]) -> Result<Record<'_>, Flaw>
     if block.len() != SIZE {
         return Err(Flaw::Size);
     }
-    let (piece, rest) = read_field(block)?;
-    let (digest, rest) = read_field(rest)?;
-    let ([count], rest) = read_field::<1>(rest)?;
-    record_of(piece, digest, *count, rest)
+    let mut fields = Fields(block);
+    let piece = next(&mut fields)?;
+    let digest = next(&mut fields)?;
+    let [count] = next::<1>(&mut fields)?;
+    record_of(piece, digest, *count, fields.0)
 }
 
 // Writes the record over all of the block; writes nothing where the block isn't 1,024 bytes or the path

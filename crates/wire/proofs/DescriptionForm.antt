@@ -22,7 +22,7 @@ fields_read d h =
     rw (number-bytes 8 d.len (small d.len can.0), can.0, zero-add, eq-eqb (length d.name) (length d.name) refl)
 
 -- a description is read of its fields, after a 1
-pub fields_of : (bs kind r0 len r1 root r2 size name : List ℕ) → IsField 1 bs kind r0 → number_of kind ≡ 1 → IsField 8 r0 len r1 → IsField 32 r1 root r2 → IsField 1 r2 size name →
+fields_of : (bs kind r0 len r1 root r2 size name : List ℕ) → IsField 1 bs kind r0 → number_of kind ≡ 1 → IsField 8 r0 len r1 → IsField 32 r1 root r2 → IsField 1 r2 size name →
     read_description bs ≡ description_of len root size name
 fields_of bs kind r0 len r1 root r2 size name k one l r s =
     field_of 1 bs kind r0 (λ kind rest. cond (eqb (number_of kind) 1) (read_numbers rest) (Err Kind)) k ∙ cond-true _ _ _ (eq-eqb _ 1 one)

@@ -45,15 +45,14 @@ impl fmt::Display for Damage {
     ghost output = { λ d. Some (damage_words d) };
 
     fn fmt<W: fmt::Write>(&self, f: &mut fmt::Formatter<W>) -> fmt::Result {
-        let reason = match self {
+        f.write_str(match self {
             Damage::Short => "it is cut off",
             Damage::Kind => "it doesn't begin with 1",
             Damage::Length => "its length is not 1 to 1073741824",
             Damage::Name => "its name has another length than it says",
             Damage::Round => "its round is not 64 ticks",
             Damage::Long => "it goes on after its end",
-        };
-        write!(f, "no description (fault 11): {reason}")
+        })
     }
 }
 

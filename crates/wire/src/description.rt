@@ -6,7 +6,7 @@ ghost use Rattle.wire.specs.Formats.{said, fits, description_bytes, description_
 ghost use Rattle.wire.specs.Laws.{IsDescription, ReadsWritten, WritesRead};
 
 use crate::damage::Damage;
-use crate::fields::{read_field, write_field};
+use crate::fields::{Fields, write_field};
 use merkle::Numbers;
 use swarm::Fault;
 
@@ -64,14 +64,15 @@ pub fn read_description(bytes: &[u8]) -> Result<Description<'_>, Damage>
     ensures round_trip { ReadsWritten IsDescription description_bytes read_description }
     ensures one_form { WritesRead IsDescription description_bytes read_description }
 {
-    let ([kind], rest) = read_field::<1>(bytes)?;
+    let mut fields = Fields(bytes);
+    let [kind] = fields.next::<1>()?;
     if *kind != KIND {
         return Err(Damage::Kind);
     }
-    let (length, rest) = read_field(rest)?;
-    let (root, rest) = read_field(rest)?;
-    let (size, name) = read_field(rest)?;
-    description_of(length, root, size, name)
+    let length = fields.next()?;
+    let root = fields.next()?;
+    let size = fields.next()?;
+    description_of(length, root, size, fields.0)
 }
 
 // Writes the description to the front of `out` and says how many bytes it has, or writes nothing where its

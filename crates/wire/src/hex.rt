@@ -21,6 +21,7 @@ impl fmt::Display for Hex<'_> {
     }
 }
 
+// Writes the two digits of one byte, which is what a turn of the loop adds.
 fn write_byte<W: fmt::Write>(f: &mut fmt::Formatter<W>, byte: u8) -> fmt::Result
     ensures { WritesOnOk W.write_str_gives f.old result (hex_digit (byte / 16) ∷ hex_digit (byte % 16) ∷ []) f.new }
 {

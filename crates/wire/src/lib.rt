@@ -10,6 +10,6 @@ mod settings;
 
 pub use damage::Damage;
 pub use description::{Description, read_description, write_description};
-pub use fields::{read_field, write_field};
+pub use fields::{Fields, write_field};
 pub use hex::{Hex, hex_digits};
 pub use settings::{Settings, read_settings, write_settings};

@@ -4,7 +4,7 @@ ghost use Rattle.wire.specs.Formats.{read_settings, settings_bytes};
 ghost use Rattle.wire.specs.Laws.{IsSettings, ReadsWritten, WritesRead};
 
 use crate::damage::Damage;
-use crate::fields::{read_field, write_field};
+use crate::fields::{Fields, write_field};
 
 // How many ticks a round has, in all settings.
 const ROUND: u16 = 64;
@@ -21,13 +21,14 @@ pub fn read_settings(bytes: &[u8]) -> Result<Settings, Damage>
     ensures round_trip { ReadsWritten IsSettings settings_bytes read_settings }
     ensures one_form { WritesRead IsSettings settings_bytes read_settings }
 {
-    let (round, rest) = read_field::<2>(bytes)?;
-    let (first_tick, rest) = read_field::<8>(rest)?;
-    let (own_number, rest) = read_field::<8>(rest)?;
+    let mut fields = Fields(bytes);
+    let round = fields.next::<2>()?;
+    let first_tick = fields.next::<8>()?;
+    let own_number = fields.next::<8>()?;
     if u16::from_be_bytes(*round) != ROUND {
         return Err(Damage::Round);
     }
-    if !rest.is_empty() {
+    if !fields.0.is_empty() {
         return Err(Damage::Long);
     }
     Ok(Settings {

@@ -13,15 +13,9 @@ with_laws p = record { read = p; round_trip = record_read; one_form = record_wri
 pub returns-then-block-ne-SIZE : goal.returns-then-block-ne-SIZE
 returns-then-block-ne-SIZE c = with_laws (search rules)
 
-pub returns-in_err-digest : goal.returns-in_err-digest
-returns-in_err-digest c = with_laws (search rules)
-
-pub returns-in_err-count : goal.returns-in_err-count
-returns-in_err-count c = with_laws (search rules)
-
 pub returns : goal.returns
 returns c =
     let fields =
-    fields_in c.args.block.now c.in_ok-piece.piece.now c.in_ok-piece.rest.now c.in_ok-digest.digest.now c.in_ok-digest.rest.now c.in_ok-count.field-0-0.now c.in_ok-count.rest.now
+    fields_in c.args.block.now c.in_ok-piece.piece.now c.next.new.fields.0.now c.in_ok-digest.digest.now c.next-2.new.fields.0.now c.in_ok-count.field-0.now c.next-3.new.fields.0.now
     (search rules) (search rules) (search rules) (search rules) in
     with_laws (rw fields c.record_of.ensures)
