@@ -1,6 +1,7 @@
 // What can go wrong, and how it is said.
 ghost use Rattle.std.specs.Prelude.{◌≡◌, Ok, IfOk};
 
+use std::alloc::AllocError;
 use std::{fmt, io};
 use swarm::Fault;
 use wire::Damage;
@@ -39,23 +40,20 @@ impl Wrong {
 impl fmt::Display for Wrong {
     fn fmt<W: fmt::Write>(&self, f: &mut fmt::Formatter<W>) -> fmt::Result {
         match self {
-            Wrong::NotOpened => write!(f, "it can't be opened"),
-            Wrong::NotRead => write!(f, "it can't be read"),
-            Wrong::NotMade => write!(f, "it can't be made"),
-            Wrong::NotWritten => write!(f, "it can't be written or put in its place"),
-            Wrong::NoFile => write!(f, "it is no file"),
-            Wrong::NoLength => write!(f, "its length can't be found"),
-            Wrong::BadLength => write!(f, "its length is not 1 to 1073741824 (fault 11)"),
-            Wrong::DescribedLength => write!(f, "its length can't be (fault 11)"),
-            Wrong::BadName => write!(f, "its name is not 1 to 255 bytes (fault 11)"),
+            Wrong::NotOpened => f.write_str("it can't be opened"),
+            Wrong::NotRead => f.write_str("it can't be read"),
+            Wrong::NotMade => f.write_str("it can't be made"),
+            Wrong::NotWritten => f.write_str("it can't be written or put in its place"),
+            Wrong::NoFile => f.write_str("it is no file"),
+            Wrong::NoLength => f.write_str("its length can't be found"),
+            Wrong::BadLength => f.write_str("its length is not 1 to 1073741824 (fault 11)"),
+            Wrong::DescribedLength => f.write_str("its length can't be (fault 11)"),
+            Wrong::BadName => f.write_str("its name is not 1 to 255 bytes (fault 11)"),
             Wrong::NotThree => {
-                write!(
-                    f,
-                    "the file, its description and its records are to be three files"
-                )
+                f.write_str("the file, its description and its records are to be three files")
             }
-            Wrong::Changed => write!(f, "it changed while it was read"),
-            Wrong::Damaged(damage) => write!(f, "{damage}"),
+            Wrong::Changed => f.write_str("it changed while it was read"),
+            Wrong::Damaged(damage) => write!(f, "no description (fault 11): {damage}"),
             Wrong::NoMemory(what) => write!(f, "there is no memory {what}"),
         }
     }
@@ -70,33 +68,40 @@ pub enum Failure<'a> {
     Part { place: &'a str, wrong: Wrong },
     // The command line asks for nothing that is known.
     Usage,
-    // What is printed is not taken, so nothing more is said.
-    Output,
+    // What can't be printed, or kept in memory, is not spoken of.
+    Unsaid,
 }
 
 impl<'a> Failure<'a> {
+    // Something wrong with the file at a path.
     pub fn of(path: &'a str, wrong: Wrong) -> Failure<'a> {
         Failure::File { path, wrong }
     }
 }
 
-impl fmt::Display for Failure<'_> {
-    fn fmt<W: fmt::Write>(&self, f: &mut fmt::Formatter<W>) -> fmt::Result {
+impl Failure<'_> {
+    // Says on standard error what went wrong.
+    pub fn say(&self, rt: &HostRuntime) -> io::Result<()> {
         match self {
-            Failure::File { path, wrong } => write!(f, "{path}: {wrong}"),
-            Failure::Part { place, wrong } => write!(f, "{place}.part: {wrong}"),
-            Failure::Usage => write!(
-                f,
-                "expected [-v] FILE DESCRIPTION RECORDS, show DESCRIPTION, or check DESCRIPTION FILE [RECORDS]"
+            Failure::File { path, wrong } => eprintln!(rt; "describe: {path}: {wrong}"),
+            Failure::Part { place, wrong } => eprintln!(rt; "describe: {place}.part: {wrong}"),
+            Failure::Usage => eprintln!(rt;
+                "describe: expected [-v] FILE DESCRIPTION RECORDS, show DESCRIPTION, or check DESCRIPTION FILE [RECORDS]"
             ),
-            Failure::Output => write!(f, "nothing can be printed"),
+            Failure::Unsaid => Ok(()),
         }
     }
 }
 
 impl From<io::Error> for Failure<'_> {
     fn from(_error: io::Error) -> Self {
-        Failure::Output
+        Failure::Unsaid
+    }
+}
+
+impl From<AllocError> for Failure<'_> {
+    fn from(_error: AllocError) -> Self {
+        Failure::Unsaid
     }
 }
 
@@ -105,6 +110,7 @@ pub trait OrFail<T> {
     // The value that it has.
     ghost holds: { Self → T → Type 0 };
 
+    // The value, or else this is wrong with the file at the path.
     fn or_fail(self, path: &str, wrong: Wrong) -> Result<T, Failure<'_>>
         ensures { IfOk result (holds self) };
 }

@@ -9,7 +9,6 @@ mod reading;
 mod showing;
 mod spans;
 
-use anyhow::anyhow;
 use comparing::compare;
 use failure::Failure;
 use job::Job;
@@ -19,21 +18,20 @@ use showing::show;
 use std::env;
 use std::process::ExitCode;
 
-// Ends with status 1 where something went wrong; what is said of it is said below.
+// Ends with status 1 where something went wrong, also where that can't be said.
 fn main(rt: HostRuntime) -> ExitCode {
-    status(begin(&rt))
+    begin(&rt).unwrap_or(ExitCode::FAILURE)
 }
 
-// Takes the words of the command line, and says what goes wrong with what they ask for.
-fn begin(rt: &HostRuntime) -> anyhow::Result<()> {
+// Does what the words of the command line ask for, says what goes wrong with it, and gives the status.
+fn begin(rt: &HostRuntime) -> Result<ExitCode, Failure<'static>> {
     let words: Vec<String> = env::args(rt)?.skip(1).collect(rt.alloc())?;
     let (verbose, words) = without_flag(words.as_slice());
-    match run(Job { rt, verbose }, words) {
-        Ok(()) => return Ok(()),
-        Err(Failure::Output) => {}
-        Err(failure) => eprintln!(rt; "describe: {failure}")?,
+    let done = run(Job { rt, verbose }, words);
+    if let Err(failure) = &done {
+        failure.say(rt)?;
     }
-    Err(anyhow!("failed"))
+    Ok(status(done))
 }
 
 // The arguments after `-v`, if that is the first.

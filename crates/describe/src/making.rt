@@ -19,6 +19,7 @@ struct Target<'a> {
 }
 
 impl<'a> Target<'a> {
+    // The target at a place.
     fn new(heap: Global, place: &'a str) -> Result<Target<'a>, AllocError> {
         let beside = format!(in heap; "{place}.part")?;
         Ok(Target { place, beside })
@@ -62,6 +63,7 @@ struct Output<'a> {
     records: Target<'a>,
 }
 
+// Makes the description and the records of a file, each at its place.
 pub fn make<'a>(
     job: Job,
     file: &'a str,
@@ -96,20 +98,14 @@ impl<'a> Output<'a> {
     // Writes both files and moves them to their places, or leaves nothing beside them.
     fn write(&self, job: Job) -> Result<(), Failure<'a>> {
         let first = self.description.create(job)?;
-        // Where the second can't be begun, the first goes: that stands between the failure and the `?`.
-        let second = match self.records.create(job) {
-            Ok(second) => second,
-            Err(failure) => {
-                self.description.discard(job);
-                return Err(failure);
-            }
-        };
-        let done = self.finish(job, first, second);
-        if done.is_err() {
+        let second = self
+            .records
+            .create(job)
+            .inspect_err(|_| self.description.discard(job))?;
+        self.finish(job, first, second).inspect_err(|_| {
             self.description.discard(job);
             self.records.discard(job);
-        }
-        done
+        })
     }
 
     // The same with both files open.
@@ -122,6 +118,7 @@ impl<'a> Output<'a> {
         self.description.finish(job)
     }
 
+    // Writes the description of the file.
     fn write_description(&self, mut out: File) -> anyhow::Result<()> {
         let numbers = self.tree.numbers();
         let described = Description {

@@ -10,6 +10,7 @@ use std::fs::File;
 use wire::{Description, read_description};
 
 impl Job<'_> {
+    // Opens the file at a path.
     pub fn open<'a>(self, path: &'a str) -> Result<File, Failure<'a>> {
         fs::open(self.rt, path).or_fail(path, Wrong::NotOpened)
     }

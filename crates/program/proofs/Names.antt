@@ -1,5 +1,7 @@
 -- What the search for a character from a text's end leaves after it.
 use Rattle.std.proofs.Common.{◌≡◌, ◌≢◌, ◌==◌, ℕ, ◌+◌, ◌-◌, ◌<◌, ◌≤◌, List, not, length, get_or, drop, ap, ◌∙◌, arith, length-drop}
+use Rattle.std.specs.Prelude.{Option, None, Some}
+use Rattle.std.specs.Option.{MatchOption}
 use Rattle.std.specs.List.{after_last, suffix_len}
 use Rattle.std.specs.Str.{NoCharPasses}
 use Rattle.std.proofs.lemmas.List.Sums.{suffix_len_is}
@@ -18,3 +20,9 @@ after_last_is c text n low within free before =
     (λ k a l. ap not (ne_eqb _ c (later k a l))) (λ some. ap not (eq-eqb _ c (before some))) in
     let from : n ≡ length text - suffix_len (λ b. not (b == c)) text = omega arith in
     ap (λ i. drop i text) from
+
+-- two facts of one option, and what each of its cases makes of them
+pub both_cases : {A : Type 0} (o : Option A) (P R G : Type 0) (Q S : A → Type 0) → (P → R → G) → ((x : A) → Q x → S x → G)
+    → MatchOption o P Q → MatchOption o R S → G
+both_cases None P R G Q S none some a b = none a b
+both_cases (Some x) P R G Q S none some a b = some x a b

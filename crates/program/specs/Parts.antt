@@ -1,5 +1,5 @@
 -- What it is that a function was given the parts of what a reader had.
-use Rattle.std.specs.Prelude.{ℕ, List, Option, Result, Ok, Err, ⊤}
+use Rattle.std.specs.Prelude.{ℕ, List, Option, Result, Ok, Err}
 use Rattle.std.specs.List.{FoldsTo, concat}
 use Rattle.std.specs.Fn.{CalledAt, Mut}
 use Rattle.std.specs.Io.KnownBytes.{Consumes, IsAtEnd}
@@ -20,9 +20,11 @@ TakesUpTo g f last old new =
 abbrev pub TakesAll : {F E : Type 0} → Takes F E → F → (old new : Option (List ℕ)) → Type 0
 TakesAll {F} g f old new = (last : F) × TakesUpTo g f last old new × IsAtEnd new
 
--- it took all but the last part that was read, which it refused with this error; or the reader failed
+-- it took all but the last part that was read, which it refused with this error; or all but what was lost as the
+-- reader failed
 abbrev pub Stops : {F E : Type 0} → Takes F E → F → (old new : Option (List ℕ)) → PartError E → Type 0
-Stops g f old new (Unread x) = ⊤
+Stops {F} g f old new (Unread x) =
+    (last : F) × (left : Option (List ℕ)) × (lost : List ℕ) × TakesUpTo g f last old left × Consumes left new lost
 Stops {F} g f old new (Refused e) =
     (last : F) × (left : Option (List ℕ)) × (part : List ℕ) × (after : F)
     × TakesUpTo g f last old left × Consumes left new part × CalledAt g last part (Err e) after

@@ -9,8 +9,5 @@ const SLASH: u8 = b'/';
 pub fn name_of(path: &str) -> &str
     ensures { result.now ≡ after_last (λ b. b == SLASH) path.now }
 {
-    match path.rsplit_once('/') {
-        Some((_, name)) => name,
-        None => path,
-    }
+    path.rsplit_once('/').map_or(path, |(_, name)| name)
 }

@@ -19,7 +19,7 @@ fn read_full<R: Read>(reader: &mut R, buffer: &mut [u8]) -> io::Result<usize>
     ensures lost { OnErr result ((some : List ℕ) × Consumes (R.remaining reader.old) (R.remaining reader.new) some) }
 {
     let mut filled = 0;
-    // The place is kept, for a part that is lent on from turn to turn gives no proof of what the whole holds.
+    // Tried with `rest = &mut rest[count..]`: `bytes` stayed open, as the loop's facts can't name what the front holds.
     while filled < buffer.len() {
         let count = reader.read(&mut buffer[filled..])?;
         if count == 0 {
@@ -70,7 +70,7 @@ pub fn each_part<R: Read, E, F: FnMut(&[u8]) -> Result<(), E>>(
     ensures all { OnOk result (TakesAll F.FnMut take (R.remaining reader.old) (R.remaining reader.new)) }
     ensures stops { IfErr result (Stops F.FnMut take (R.remaining reader.old) (R.remaining reader.new)) }
 {
-    // The count is there because each loop has to end.
+    // Tried as a plain `loop`: it asks for a number that falls each turn, and a reader that tells no end gives none.
     for _ in 0..u64::MAX {
         let part = read_part(reader, buffer)?;
         if part.is_empty() {

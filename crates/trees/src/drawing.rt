@@ -9,9 +9,10 @@ fn next(state: u32) -> u32 {
     state.wrapping_mul(1664525).wrapping_add(1013904223)
 }
 
-// How long the last piece is: whole, a few bytes, a few less than a whole one, or something between.
+// How long the last of at most 40 pieces is: whole, a few bytes, a few less than a whole one, or something between.
 fn last_length(pieces: u8) -> u32
-    ensures { result ≤ 102255 }
+    ensures most { result ≤ 102255 }
+    ensures fits { pieces ≤ 40 → result ≤ 16384 }
 {
     let count = u32::from(pieces);
     match pieces % 4 {

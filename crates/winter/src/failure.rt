@@ -19,6 +19,7 @@ pub enum Wrong {
 }
 
 impl Failure {
+    // Says on standard error what went wrong.
     pub fn say(&self, rt: &HostRuntime) -> io::Result<()> {
         match self {
             Failure::NoScripts => eprintln!(rt; "winter: expected the names of scripts"),

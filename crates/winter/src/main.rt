@@ -45,6 +45,7 @@ fn play_all(rt: &HostRuntime) -> Result<(), Failure> {
 fn read_all(rt: &HostRuntime) -> Result<Vec<Named>, Failure> {
     let mut scripts = Vec::new(rt.alloc());
     for path in env::args(rt)?.skip(1) {
+        // A `match`, as the path goes to the script or to the failure.
         match read_script(rt, path.as_str()) {
             Ok(script) => scripts.push(Named { path, script })?,
             Err(wrong) => return Err(Failure::Script { path, wrong }),
@@ -56,6 +57,7 @@ fn read_all(rt: &HostRuntime) -> Result<Vec<Named>, Failure> {
     Ok(scripts)
 }
 
+// Reads the script at a path.
 fn read_script(rt: &HostRuntime, path: &str) -> Result<Script, Wrong> {
     let text = fs::read(rt, path)?;
     Ok(read(rt.alloc(), text.as_slice())?)
