@@ -53,6 +53,8 @@ impl Stream {
         requires made { value ≡ after self.value blocks.now }
         ensures adds { Adds (flat_map (λ b. b) blocks.now) self result }
         ensures even { result.count ≡ self.count + length blocks.now * 64 }
+        ensures value { result.value ≡ value }
+        ensures rest { result.rest ≡ self.rest }
     {
         Stream {
             value,

@@ -2,7 +2,7 @@
 ghost use Rattle.std.specs.Prelude.{◌≡◌, ℕ, ◌+◌, ◌≤◌, List, ◌∷◌, length, take, is_ok, IfOk};
 ghost use Rattle.sha256.specs.Hashers.{counts};
 ghost use Rattle.sha256.specs.Sha256.{digest};
-ghost use Rattle.sha256.specs.Sides.{Holds, Keeps};
+ghost use Rattle.sha256.specs.Sides.{Behind, Holds, Keeps};
 ghost use Rattle.sha256.specs.Streams.{after};
 
 use crate::hasher::TooLong;
@@ -32,7 +32,8 @@ impl<'a> Side<'a> {
     pub(crate) fn behind(self, count: usize, value: [u32; 8]) -> Side<'a>
         requires few { count ≤ length self.blocks.now }
         requires made { value ≡ after self.stream.value (take count self.blocks.now) }
-        ensures { Keeps self.entry result }
+        ensures keeps { Keeps self.entry result }
+        ensures taken { Behind count self.entry result }
     {
         let (taken, blocks) = self.blocks.split_at(count);
         Side {

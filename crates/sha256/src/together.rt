@@ -5,7 +5,7 @@ ghost use Rattle.std.specs.Simd.Lanes.{zip2};
 ghost use Rattle.sha256.specs.Lanes.{lane};
 ghost use Rattle.sha256.specs.Parts.{each_counts};
 ghost use Rattle.sha256.specs.Sha256.{digest};
-ghost use Rattle.sha256.specs.Sides.{Keeps, lanes};
+ghost use Rattle.sha256.specs.Sides.{Behind, Keeps, fewest, lanes};
 ghost use Rattle.sha256.specs.Streams.{after};
 
 use crate::four::compressed_four;
@@ -62,7 +62,8 @@ fn after_four(v: Lanes, blocks: [&[[u8; 64]]; 4], count: usize) -> Lanes
 
 // Takes in the blocks that all four have, side by side.
 fn side_by_side(sides: [Side; 4]) -> [Side; 4]
-    ensures { AllZip Keeps sides.entry result }
+    ensures keeps { AllZip Keeps sides.entry result }
+    ensures all { AllZip (Behind (fewest sides.entry)) sides.entry result }
 {
     let [p, q, r, s] = sides;
     let count = p

@@ -31,7 +31,7 @@ returns c =
     λ k s lt. mapped_each _ (λ x y. (m : List ℕ) → Holds m x → y ≡ digest m) _ (λ x y f k. (search rules, search rules)) c.side_by_side.result c.map-2.result 0 4 _ refl c.map-2.ensures.items.each k s [] (omega arith) lt in
     let fits : (k : ℕ) → k < 4 → counts (1 + length (get_or c.args.parts k none).now) ≡ true = λ k lt. sym (each k lt).0 ∙ ap is_ok (same k lt) in
     let holds : (k : ℕ) → k < 4 → Holds (c.args.first ∷ (get_or c.args.parts k none).now) (side k) = λ k lt. subst (λ r. IfOk r (Holds (c.args.first ∷ (get_or c.args.parts k none).now))) (same k lt) (each k lt).1 in
-    let kept = subst (λ olds. AllZip Keeps olds c.side_by_side.result) (sym (four_places sides no_side no_side no_side no_side oks.long)) c.side_by_side.ensures in
+    let kept = subst (λ olds. AllZip Keeps olds c.side_by_side.result) (sym (four_places sides no_side no_side no_side no_side oks.long)) c.side_by_side.ensures.keeps in
     record {
       fits = four_count c.args.parts none (search rules) true (fits 0 (omega arith)) (fits 1 (omega arith)) (fits 2 (omega arith)) (fits 3 (omega arith));
       value = four_digests c.args.parts none (search rules) c.args.first (side 0) (side 1) (side 2) (side 3) c.side_by_side.result c.map-2.result c.map-2.ensures.items.long kept ended
