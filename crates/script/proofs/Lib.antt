@@ -1,4 +1,5 @@
 pub mod Exits
+pub mod FirstLine
 pub mod FirstWord
 pub mod Inserting
 pub mod NumeralExact

@@ -8,7 +8,7 @@ use Rattle.std.proofs.lemmas.Bool.{and_from, and_parts, cond-true, lt-ltb, ltb-t
 use Rattle.std.proofs.lemmas.Bool.Decides.{nat_tests}
 use Rattle.std.specs.Str.{all_ascii_digits}
 
-pub digits : IsNumeralModel (λ ds. all_ascii_digits ds ≡ true) (read_on 0)
+digits : IsNumeralModel (λ ds. all_ascii_digits ds ≡ true) (read_on 0)
 digits = numerals_by_fold _ tells_all_ascii_digits read_on (search rules)
 
 told : (b : Bool) (v n : ℕ) → cond b (Some v) None ≡ Some n → (b ≡ true) × (v ≡ n)

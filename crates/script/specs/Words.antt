@@ -1,5 +1,6 @@
 -- The lines of a text, the words of a line, and the number that a word is. Assumes nothing.
 use Rattle.std.specs.Prelude.{ℕ, ◌+◌, ◌-◌, ◌*◌, ◌^◌, Bool, false, cond, not, ◌&&◌, ◌||◌, List, [], ◌∷◌, length, Some, None, Option, ◌==◌, nat_lt, slice_index}
+use Rattle.script.specs.declared.words.Lines.{Lines}
 use Rattle.script.specs.declared.words.Words.{Words}
 use Rattle.std.specs.List.{slice_split}
 use Rattle.std.specs.Str.{all_ascii_digits}
@@ -35,6 +36,10 @@ left w = words w.rest.now
 abbrev pub lines : List ℕ → List (List ℕ)
 lines bs = slice_split (λ b. b == 10) bs
 
+-- the lines that are left
+abbrev pub lines_left : Lines → List (List ℕ)
+lines_left l = elim l.rest [ Some text ↦ lines text.now | None ↦ [] ]
+
 -- digits from the left, after the number so far
 abbrev pub read_on : ℕ → List ℕ → ℕ
 read_on n [] = n
@@ -47,3 +52,7 @@ plain ds = all_ascii_digits ds && (nat_lt 0 (length ds) && (length ds == 1 || no
 -- the number of 64 bits that a word is
 abbrev pub numeral : List ℕ → Option ℕ
 numeral ds = cond (plain ds && nat_lt (read_on 0 ds) (2 ^ 64)) (Some (read_on 0 ds)) None
+
+-- the number of 64 bits that digits write after the number so far
+abbrev pub onward : ℕ → List ℕ → Option ℕ
+onward n ds = cond (all_ascii_digits ds && nat_lt (read_on n ds) (2 ^ 64)) (Some (read_on n ds)) None

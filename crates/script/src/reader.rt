@@ -9,7 +9,7 @@ use crate::links::first_bad_break;
 use crate::places::{find_peer, place_of};
 use crate::sheet::{Event, LinkEvent, Peer, ReadFault, Script};
 use crate::statement::{Expected, Statement, read_statement};
-use crate::words::Words;
+use crate::words::{Lines, Words};
 use std::alloc::Global;
 
 impl Draft {
@@ -124,7 +124,7 @@ pub fn read(heap: Global, text: &[u8]) -> Result<Script, ReadFault>
     let mut draft = Draft::new(heap);
     // Counted beside the loop, for the last line's number is wanted after it.
     let mut number: u64 = 0;
-    for line in text.split(|b| *b == b'\n') {
+    for line in Lines::of(text) {
         number = number.saturating_add(1);
         draft = draft.with_line(number, line)?;
     }

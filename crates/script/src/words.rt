@@ -1,7 +1,7 @@
-// The words of a line.
+// The words of a line, and the lines of a text.
 ghost use Rattle.std.specs.Prelude.{◌≡◌};
 ghost use Rattle.std.specs.Iterator.{YieldsFirstRef, item_count};
-ghost use Rattle.script.specs.Words.{blank, in_word, left, words};
+ghost use Rattle.script.specs.Words.{blank, in_word, left, words, lines, lines_left};
 
 // Is it a space, a tab or a carriage return?
 fn is_blank(b: u8) -> bool
@@ -50,5 +50,39 @@ impl<'a> Iterator for Words<'a> {
         }
         self.rest = rest;
         Some(word)
+    }
+}
+
+// The lines of a text that are left, if there are any.
+#[derive(Drop)]
+pub(crate) struct Lines<'a> {
+    rest: Option<&'a [u8]>,
+}
+
+impl<'a> Lines<'a> {
+    // All lines of a text; there is at least one.
+    pub(crate) fn of(text: &'a [u8]) -> Lines<'a>
+        ensures { lines_left result ≡ lines text.now }
+    {
+        Lines { rest: Some(text) }
+    }
+}
+
+// The next line, if there is one more. The library's `split` gives the same lines, and took a third to two thirds longer over
+// empty ones.
+impl<'a> Iterator for Lines<'a> {
+    type Item = &'a [u8];
+
+    ghost next_gives = { YieldsFirstRef lines_left };
+
+    ghost remaining = { item_count lines_left };
+
+    fn next(&mut self) -> Option<&'a [u8]> {
+        let text = self.rest.take()?;
+        let Some(end) = text.iter().position(|b| *b == b'\n') else {
+            return Some(text);
+        };
+        self.rest = Some(&text[end + 1..]);
+        Some(&text[..end])
     }
 }

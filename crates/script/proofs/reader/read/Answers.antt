@@ -1,16 +1,16 @@
 -- Each line is taken by the definition's own step.
-use Rattle.std.proofs.Common.{◌==◌, sym, ap, ◌∙◌, rules, tests}
+use Rattle.std.proofs.Common.{sym, ap, ◌∙◌, rules}
 use Rattle.script.proofs.Reading.{first_left, none_left, taken_line, kept-later, handed_fault, reads_whole}
 use Rattle.script.proofs.ScriptSound.{script_sound}
 use Rattle.script.proofs.reader.read.Goals as goal
 use Rattle.script.specs.Sheets.{sheet, with_lines, kept_lines}
-use Rattle.script.specs.Words.{lines}
-use Rattle.std.proofs.lemmas.Iterator.Splits.{YieldsList-from_slice_split}
+use Rattle.script.specs.Words.{lines, lines_left}
+use Rattle.std.proofs.lemmas.Iterator.Consumers.{YieldsList-from_first}
 
 pub loop-line-init : goal.loop-line-init
 loop-line-init c = record {
   rest = lines c.args.text.now;
-  gives = (YieldsList-from_slice_split _ (λ b. b == 10) c.args.text.now (cc) (cc) (cc) (λ x b q k. search (rules, tests))).runs;
+  gives = (YieldsList-from_first (λ line. line.now) lines_left (lines c.args.text.now) (search rules)).runs;
   makes = ap (λ s. with_lines 0 s (lines c.args.text.now)) c.new-draft.ensures;
   wants = λ h. sym (ap (λ s. kept_lines 0 s (lines c.args.text.now)) c.new-draft.ensures) ∙ h;
 }
