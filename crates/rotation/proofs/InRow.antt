@@ -1,7 +1,6 @@
 -- What a rotation does to its array is what happens to the row that the array stands for.
 use Rattle.std.proofs.Common.{◌≡◌, ℕ, zero, suc, ◌+◌, ◌<◌, ◌≤◌, Bool, true, false, cond, not, ◌||◌, eqb, List, [], ◌∷◌, ◌++◌, length, get_or, take, drop, filter, sym, refl, ap, append-nil, ◌≢◌, ◌∙◌, arith}
 use Rattle.std.proofs.lemmas.List.Elements.{filter_more}
-use Rattle.std.proofs.lemmas.List.Filters.{length-filter_both}
 use Rattle.std.proofs.lemmas.List.Recursion.{same_from_clauses}
 use Rattle.std.specs.List.{list_any}
 use Rattle.std.proofs.lemmas.List.{take_at}
@@ -38,10 +37,6 @@ without-more_kept q xs i h e = let m = without-more q xs i h in grind (arith, na
 
 pub without-more_gone : (q : ℕ) (xs : List ℕ) (i : ℕ) → i < length xs → get_or xs i 0 ≡ q → without q (take (i + 1) xs) ≡ without q (take i xs)
 without-more_gone q xs i h e = let m = without-more q xs i h in grind (arith, nat_tests, append-nil)
-
--- no more are left than were there
-pub length-without : (q : ℕ) (xs : List ℕ) → length (without q xs) ≤ length xs
-length-without q xs = omega (arith, ap length (without-kept q xs), length-filter_both (λ x. not (eqb x q)) (λ x. not (not (eqb x q))) (λ _. refl) xs)
 
 -- who is there changes nothing by joining
 pub join_there : (q : ℕ) (xs : List ℕ) → is_in q xs ≡ true → changed (Joins q ∷ []) xs ≡ xs

@@ -65,13 +65,16 @@ impl Rotation {
     pub fn leave(self, id: u64) -> Rotation
         ensures { row result ≡ without id (row self) }
     {
-        let mut others = Rotation::new();
+        // The count is a local, which stays in a register, where `push` would write it back each time.
+        let mut ids = self.ids;
+        let mut count = 0;
         for other in &self.ids[..self.count] {
             if *other != id {
-                others.push(*other);
+                ids[count] = *other;
+                count += 1;
             }
         }
-        others
+        Rotation { ids, count }
     }
 
     // The first has the turn, and goes to the end.
@@ -105,9 +108,12 @@ impl Rotation {
     pub fn change_all(self, changes: &[Change]) -> Rotation
         ensures { row result ≡ changed (taken nobody (row self) (meant_all changes.now)) (row self) }
     {
-        changes
-            .iter()
-            .fold(self, |after, change| after.change(*change))
+        // A loop and no `fold`, which hands the whole array through a closure for each change.
+        let mut after = self;
+        for change in changes {
+            after = after.change(*change);
+        }
+        after
     }
 
     // From one round to the next: the turn, then what changes in the round.
