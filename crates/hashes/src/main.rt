@@ -3,8 +3,8 @@
 
 use anyhow::{Context, anyhow};
 use merkle::Digests;
-use program::{AT_ONCE, each_part, status};
-use sha256::{Hasher, TooLong};
+use program::{AT_ONCE, each_part, read_part, status};
+use sha256::Hasher;
 use std::process::ExitCode;
 use std::{env, fs};
 use wire::Hex;
@@ -29,16 +29,19 @@ fn run(rt: &HostRuntime) -> anyhow::Result<()> {
     Ok(())
 }
 
-// The digest of a file, part by part.
+// The digest of a file, part by part, up to its first end. A loop of its own, since `each_part` reads once more after a short part,
+// and at a terminal that would wait for a second end of input.
 fn stream(rt: &HostRuntime, path: &str) -> anyhow::Result<[u8; 32]> {
     let mut file = fs::open(rt, path)?;
     let mut buffer = vec![in rt.alloc(); 0u8; AT_ONCE]?;
     let mut hasher = Hasher::new();
-    let taken = each_part(&mut file, &mut buffer, |part| -> Result<(), TooLong> {
+    for _ in 0..u64::MAX {
+        let part = read_part(&mut file, &mut buffer)?;
         hasher = hasher.update(part)?;
-        Ok(())
-    });
-    taken.ok().context("it can't be taken in")?;
+        if part.len() < AT_ONCE {
+            break;
+        }
+    }
     Ok(hasher.finish())
 }
 
