@@ -11,7 +11,7 @@ pub returns : goal.returns
 returns c =
     let p = c.next_power_of_two.ensures in
     record {
-      value = doubled-power c.args.pieces _ _ c.div_ceil.ensures (p.power, p.lower_bound, p.upper_bound);
+      value = doubled-power c.args.pieces c.div_ceil.result _ (omega (arith, c.ranges.pieces)) (p.power, p.lower_bound, p.upper_bound);
       exact = way_exact;
       unique = way_unique;
     }
