@@ -1,14 +1,16 @@
 -- The lines of a text are what stands before its first line feed, and then the lines of what follows it.
-use Rattle.std.proofs.Common.{◌≡◌, ℕ, suc, ◌+◌, ◌<◌, Bool, true, false, cond, not, eqb, ltb, List, [], ◌∷◌, length, take, drop, Some, None, Option, refl, ap, ◌∙◌, one-add, arith}
+use Rattle.std.proofs.Common.{◌≡◌, ℕ, suc, ◌+◌, ◌<◌, Bool, true, false, cond, not, eqb, List, [], ◌∷◌, length, take, drop, sym, refl, ap, ◌∙◌, one-add, arith}
 use Rattle.script.specs.Words.{lines}
-use Rattle.std.proofs.lemmas.Bool.Decides.{nat_tests}
-use Rattle.std.proofs.lemmas.List.Sums.{prefix_len-le-length}
 use Rattle.std.proofs.lemmas.List.{take_all}
-use Rattle.std.specs.List.{position_or_len, onto_first}
+use Rattle.std.specs.List.{prefix_len, onto_first}
+
+-- a byte of a line
+abbrev pub in_line : ℕ → Bool
+in_line b = not (eqb b 10)
 
 -- how many bytes stand before the first line feed
 abbrev pub upto : List ℕ → ℕ
-upto xs = position_or_len (λ b. eqb b 10) xs
+upto xs = prefix_len in_line xs
 
 last_whole : (xs : List ℕ) → upto xs ≡ length xs → lines xs ≡ take (upto xs) xs ∷ []
 last_whole [] h = refl
@@ -28,16 +30,10 @@ first_part (x ∷ xs) h = step (eqb x 10) h (first_part xs)
     step true l ih = refl
     step false l ih = let e : 1 + upto xs + 1 ≡ suc (upto xs + 1) = omega arith in rw (e, one-add) (ap (onto_first x) (ih (omega arith)))
 
--- where a search for a line feed ends
-module _ (xs : List ℕ) (r : Option ℕ) (found : r ≡ cond (ltb (upto xs) (length xs)) (Some (upto xs)) None) where
-  pub only_line : r ≡ None → lines xs ≡ xs ∷ []
-  only_line none =
-      let few = prefix_len-le-length (λ b. not (eqb b 10)) xs in
-      let all : upto xs ≡ length xs = grind (arith, nat_tests) in
-      last_whole xs all ∙ ap (λ ys. ys ∷ []) (take_all (upto xs) xs (omega arith))
+-- the same, of a number that is known to be upto xs
+module _ (xs : List ℕ) (n : ℕ) (e : n ≡ upto xs) where
+  pub only_line : n ≡ length xs → lines xs ≡ xs ∷ []
+  only_line h = last_whole xs (sym e ∙ h) ∙ ap (λ ys. ys ∷ []) (take_all (upto xs) xs (omega arith))
 
-  pub first_line : (n : ℕ) → r ≡ Some n → (n < length xs) × (lines xs ≡ take n xs ∷ lines (drop (n + 1) xs))
-  first_line n some =
-      let at : n ≡ upto xs = grind (arith, nat_tests) in
-      let lt : upto xs < length xs = grind (arith, nat_tests) in
-      (omega arith, rw at (first_part xs lt))
+  pub first_line : n < length xs → lines xs ≡ take n xs ∷ lines (drop (n + 1) xs)
+  first_line h = rw e (first_part xs (omega arith))

@@ -1,6 +1,7 @@
 pub mod Exits
 pub mod FirstLine
 pub mod FirstWord
+pub mod Leading
 pub mod Inserting
 pub mod NumeralExact
 pub mod ReadDigits

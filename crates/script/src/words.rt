@@ -1,5 +1,6 @@
 // The words of a line, and the lines of a text.
-ghost use Rattle.std.specs.Prelude.{◌≡◌};
+ghost use Rattle.std.specs.Prelude.{◌≡◌, ◌≤◌, not, length, ◌==◌};
+ghost use Rattle.std.specs.List.{prefix_len};
 ghost use Rattle.std.specs.Iterator.{YieldsFirstRef, item_count};
 ghost use Rattle.script.specs.Words.{blank, in_word, left, words, lines, lines_left};
 
@@ -53,6 +54,20 @@ impl<'a> Iterator for Words<'a> {
     }
 }
 
+// How many bytes are in front of the first line feed. A loop, since a scan by `position` or by the library's `split` took a fifth to
+// two fifths longer over comments and empty lines.
+fn line_end(text: &[u8]) -> usize
+    ensures front { result ≡ prefix_len (λ b. not (b == 10)) text.now }
+    ensures within { result ≤ length text.now }
+{
+    for (i, b) in text.iter().enumerate() {
+        if *b == b'\n' {
+            return i;
+        }
+    }
+    text.len()
+}
+
 // The lines of a text that are left, if there are any.
 #[derive(Drop)]
 pub(crate) struct Lines<'a> {
@@ -68,8 +83,7 @@ impl<'a> Lines<'a> {
     }
 }
 
-// The next line, if there is one more. The library's `split` gives the same lines, and took a third to two thirds longer over
-// empty ones.
+// The next line, if there is one more.
 impl<'a> Iterator for Lines<'a> {
     type Item = &'a [u8];
 
@@ -79,9 +93,10 @@ impl<'a> Iterator for Lines<'a> {
 
     fn next(&mut self) -> Option<&'a [u8]> {
         let text = self.rest.take()?;
-        let Some(end) = text.iter().position(|b| *b == b'\n') else {
+        let end = line_end(text);
+        if end == text.len() {
             return Some(text);
-        };
+        }
         self.rest = Some(&text[end + 1..]);
         Some(&text[..end])
     }
