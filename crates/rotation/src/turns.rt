@@ -27,7 +27,7 @@ impl Rotation {
     pub fn has(self, id: u64) -> bool
         ensures { result ≡ is_in id (row self) }
     {
-        self.ids[..self.count].contains(&id)
+        self.ids[..self.count].iter().any(|other| *other == id)
     }
 
     // Can `id` join? It is there, or there are fewer than 64.
