@@ -54,8 +54,8 @@ impl<'a> Iterator for Words<'a> {
     }
 }
 
-// How many bytes are in front of the first line feed. A loop, since a scan by `position` or by the library's `split` took a fifth to
-// two fifths longer over comments and empty lines.
+// How many bytes are in front of the first line feed. A loop: over empty lines and comments the library's `split` took up to a
+// tenth longer, and a scan by `position` a tenth to a fifth.
 fn line_end(text: &[u8]) -> usize
     ensures front { result ≡ prefix_len (λ b. not (b == 10)) text.now }
     ensures within { result ≤ length text.now }
