@@ -54,8 +54,8 @@ impl<'a> Iterator for Words<'a> {
     }
 }
 
-// How many bytes are in front of the first line feed. A loop: over empty lines and comments the library's `split` took up to a
-// tenth longer, and a scan by `position` a tenth to a fifth.
+// How many bytes are in front of the first line feed. A loop, since by the library's `split` or by `position` empty lines
+// and comments took longer; docs/LOOK-BACK.md has the times.
 fn line_end(text: &[u8]) -> usize
     ensures front { result ≡ prefix_len (λ b. not (b == 10)) text.now }
     ensures within { result ≤ length text.now }
